@@ -1,0 +1,1 @@
+// What is claimed of whole lists of commands, in specs/, and its proof, in proofs/. No code.

@@ -1,0 +1,151 @@
+-- The ledger's state passes `restore`'s test: 11 never comes of a book that began zeroed.
+use Prim.Native.Nat.{ℕ, zero, suc, _+_, _*_, _^_, _<_, _≤_}
+use mathlib.Core.Path.{_≡_, refl, sym, ap, ap₂, _∙_}
+use mathlib.Core.Bool.{Bool, true, false, not, _&&_, _||_, Bool·beq}
+use mathlib.Core.Option.{Option, none, some}
+use mathlib.Core.List.{List, [], _∷_}
+use native.Mathlib.Omega.{arith}
+use lib.IntN.{ℤ, pos}
+use lib.Signed.{ltZ, leZ}
+use lib.Dec.{ltb, leb, eqb}
+use lib.Pow.{pow-pos}
+use borrow.Author.Tests.{ltb-true, lt-ltb, le-leb, eq-eqb, ne-eqb, eqb-true, eqb-false}
+use Rattle.rules.proofs.Bools.{both, beq-refl}
+use Rattle.rules.proofs.Integers.{lt-true}
+use Rattle.rules.proofs.Logs.{all-mono, first-all, all-map}
+use Rattle.rules.proofs.Series.{accept-facts, good-positive, taken-all, opening-good}
+use Rattle.rules.proofs.State.{parts-back, zeros-after}
+use Rattle.rules.proofs.Fields.{commandFits, chain-all, chain-size, bits-below, candidates-fit, postings-fit, freeze-fits, freeze-final}
+use Rattle.rules.specs.Log.{Log, ε, _▹_, if_then_else_, maybe, size, all, first, map, Σ<, every}
+use Rattle.rules.specs.Answers.{final}
+use Rattle.rules.specs.Terms.{goodTerms, slots}
+use Rattle.rules.specs.Prints.{Print, goodPrint, eqZ}
+use Rattle.rules.specs.Taking.{Candidates, canonical, links, follows}
+use Rattle.rules.specs.State.{candidatesOf, partsOf, rising, restoreTests, goodState}
+use Rattle.rules.specs.Series.{Opening, Command, Open, Offer, Ask, Fix, Series, empty, live, fixed, decided}
+use Rattle.rules.specs.Record.{candidatesFit}
+use Rattle.rules.specs.Ledger.{opening, Posting, postings, holder, chain, fallback, greatest, candidates, Freeze, freeze, takenPrints, since, ledger}
+
+-- the series whose record is acceptable
+abbrev pub sound : Series → Bool
+sound empty = true
+sound (live o c) = every (goodTerms (o .terms) ∷ goodState (o .terms) (partsOf c) ∷ [])
+sound (fixed o c a at) = every (goodTerms (o .terms) ∷ goodState (o .terms) (partsOf c) ∷ final (decided o c at) ∷ [])
+
+-- ---- sums of positive numbers
+
+eqb-add : (a b : ℕ) → eqb (a + b) 0 ≡ eqb a 0 && eqb b 0
+eqb-add a b = go (eqb a 0) (eqb b 0) refl refl
+  where
+    go : (x y : Bool) → eqb a 0 ≡ x → eqb b 0 ≡ y → eqb (a + b) 0 ≡ x && y
+    go true true p q = let p = eqb-true a 0 p in let q = eqb-true b 0 q in eq-eqb (a + b) 0 (omega arith)
+    go true false p q = let q = eqb-false b 0 q in ne-eqb (a + b) 0 (omega arith)
+    go false y p q = let p = eqb-false a 0 p in ne-eqb (a + b) 0 (omega arith)
+
+zero-together : (n : ℕ) (f g : ℕ → ℕ) → ((i : ℕ) → eqb (f i) 0 ≡ eqb (g i) 0) → eqb (Σ< n f) 0 ≡ eqb (Σ< n g) 0
+zero-together zero f g h = refl
+zero-together (suc n) f g h = rw (eqb-add (Σ< n f) (f n), eqb-add (Σ< n g) (g n), zero-together n f g h, h n)
+
+-- ---- the chain
+
+abbrev good : Posting → Bool
+good p = goodPrint (p .print)
+
+module _ (o : Opening) where
+  abbrev times : Log Posting → Log ℤ
+  times ps = map (λ q. q .print .published) (chain o ps)
+
+  rises-more : (ts : Log ℤ) (p : Print) → rising ts ≡ true → follows (o .terms) (o .expiry) ts p ≡ true → rising (ts ▹ p .published) ≡ true
+  rises-more ε p r f = refl
+  rises-more (ts ▹ t) p r f = rw (r, both (eqZ (p .prev) t) (ltZ t (p .published)) f .1)
+
+  chain-rising : (ps : Log Posting) → rising (times ps) ≡ true
+  unfolding chain links
+  chain-rising ε = refl
+  chain-rising (ps ▹ p) = go (links (o .terms) (o .expiry) (times ps) (p .print)) refl (chain-rising ps)
+    where
+      go : (b : Bool) → links (o .terms) (o .expiry) (times ps) (p .print) ≡ b → rising (times ps) ≡ true
+          → rising (map (λ q. q .print .published) (if b then chain o ps ▹ p else chain o ps)) ≡ true
+      go true l r = rises-more (times ps) (p .print) r (both (ltb (size (times ps)) (o .terms .k)) (follows (o .terms) (o .expiry) (times ps) (p .print)) l .1)
+      go false l r = r
+
+module _ (o : Opening) (ps : Log Posting) (h : all good ps ≡ true) where
+  sum-with-bits : eqb (candidates o ps .bits) 0 ≡ eqb (candidates o ps .sum) 0
+  unfolding candidates holder
+  sum-with-bits = zero-together (slots (o .terms)) _ _ (λ i. go i (holder o ps i) (first-all (λ p. canonical (o .terms) (o .expiry) i (p .print)) good ps h))
+    where
+      go : (i : ℕ) (x : Option Posting) → maybe true good x ≡ true → eqb (maybe 0 (λ p. 2 ^ i) x) 0 ≡ eqb (maybe 0 (λ p. p .print .price) x) 0
+      go i none e = refl
+      go i (some p) e =
+          let q = ltb-true 0 (p .print .price) (good-positive (p .print) e .0) in
+          let w = pow-pos i in
+          rw (ne-eqb (2 ^ i) 0 (omega arith), ne-eqb (p .print .price) 0 (omega arith))
+
+  fallback-both : eqZ (candidates o ps .fallbackTime) (pos 0) ≡ eqb (candidates o ps .fallbackPrice) 0
+  unfolding candidates fallback
+  fallback-both = go (first (greatest o ps) ps) (first-all (greatest o ps) good ps h)
+    where
+      go : (f : Option Posting) → maybe true good f ≡ true → eqZ (maybe (pos 0) (λ p. p .print .published) f) (pos 0) ≡ eqb (maybe 0 (λ p. p .print .price) f) 0
+      go none e = refl
+      go (some p) e =
+          let (q, l) = good-positive (p .print) e in
+          let q = ltb-true 0 (p .print .price) q in
+          rw (lt-true (pos 0) (p .print .published) l, ne-eqb (p .print .price) 0 (omega arith))
+
+  short : leb (size (candidates o ps .times)) (o .terms .k) ≡ true
+  unfolding candidates
+  short = le-leb _ _ (chain-size o ps)
+
+  rises : rising (candidates o ps .times) ≡ true
+  unfolding candidates
+  rises = chain-rising o ps
+
+  positive : all (λ price. ltb 0 price) (candidates o ps .prices) ≡ true
+  unfolding candidates
+  positive =
+      all-map (λ price. ltb 0 price) (λ p. p .print .price) (chain o ps)
+      (all-mono good (λ p. ltb 0 (p .print .price)) (λ p g. good-positive (p .print) g .0) (chain o ps) (chain-all o good ps h))
+
+  pub candidates-good : candidatesFit (candidates o ps) ≡ true → goodState (o .terms) (partsOf (candidates o ps)) ≡ true
+  unfolding goodState partsOf
+  candidates-good f =
+      rw (
+        parts-back (candidates o ps) f,
+        zeros-after (candidates o ps) f 0 (omega arith),
+        zeros-after (candidates o ps) f 1 (omega arith),
+        zeros-after (candidates o ps) f 2 (omega arith),
+        zeros-after (candidates o ps) f 3 (omega arith),
+        zeros-after (candidates o ps) f 4 (omega arith),
+        lt-ltb _ _ (bits-below o ps),
+        sum-with-bits,
+        beq-refl (eqb (candidates o ps .sum) 0),
+        short,
+        rises,
+        positive,
+        fallback-both,
+        beq-refl (eqb (candidates o ps .fallbackPrice) 0),
+      )
+
+-- ---- the ledger
+
+postings-good : (j : Log Command) → all good (postings j) ≡ true
+postings-good j = taken-all good (λ c. true) (λ o q now p f e. accept-facts (o .terms .exponent) (o .bps) q p e .0) j (yes-all j)
+  where
+    yes-all : (j : Log Command) → all (λ c. true) j ≡ true
+    yes-all ε = refl
+    yes-all (j ▹ c) = rw (yes-all j)
+
+pub ledger-sound : (j : Log Command) → all commandFits j ≡ true → sound (ledger j) ≡ true
+unfolding ledger takenPrints
+ledger-sound j h = go (opening j) (freeze j) refl refl
+  where
+    go : (o : Option Opening) (z : Option Freeze) → opening j ≡ o → freeze j ≡ z
+        → sound (maybe empty (λ q. since q (candidates q (maybe (postings j) (λ y. postings (y .ahead)) z)) z) o) ≡ true
+    go none z e f = refl
+    go (some o) none e f =
+        let c = candidates-fit o (postings j) (opening-good j o e) (postings-fit j h) in
+        rw (opening-good j o e, candidates-good o (postings j) (postings-good j) c)
+    go (some o) (some z) e f =
+        let (a, n) = freeze-fits z j h f in
+        let c = candidates-fit o (postings (z .ahead)) (opening-good j o e) (postings-fit (z .ahead) a) in
+        rw (opening-good j o e, candidates-good o (postings (z .ahead)) (postings-good (z .ahead)) c, freeze-final z j o f e)

@@ -1,0 +1,60 @@
+-- Facts about Boolean tests and choices.
+use Prim.Native.Nat.{ℕ, zero, suc}
+use mathlib.Core.Path.{_≡_, refl}
+use mathlib.Core.Bool.{Bool, true, false, not, _&&_, _||_, Bool·beq}
+use mathlib.Core.List.{List, [], _∷_}
+use Rattle.rules.specs.Log.{if_then_else_, every}
+
+pub both : (a b : Bool) → a && b ≡ true → (a ≡ true) × (b ≡ true)
+both true b e = (refl, e)
+both false b e = (e, cc)
+
+pub and-true : (a : Bool) → a && true ≡ a
+and-true true = refl
+and-true false = refl
+
+pub and-false : (a : Bool) → a && false ≡ false
+and-false true = refl
+and-false false = refl
+
+pub or-true : (a : Bool) → a || true ≡ true
+or-true true = refl
+or-true false = refl
+
+pub drop-last : (a b c : Bool) → a && (b && c) ≡ true → a && b ≡ true
+drop-last true true c e = refl
+drop-last true false c e = e
+drop-last false b c e = e
+
+pub beq-refl : (a : Bool) → Bool·beq a a ≡ true
+beq-refl true = refl
+beq-refl false = refl
+
+-- ---- a list of tests
+
+-- the i-th test of a list
+abbrev pub test : List Bool → ℕ → Bool
+test [] i = true
+test (b ∷ bs) zero = b
+test (b ∷ bs) (suc i) = test bs i
+
+pub every-at : (bs : List Bool) (i : ℕ) → every bs ≡ true → test bs i ≡ true
+every-at [] i e = refl
+every-at (true ∷ bs) zero e = refl
+every-at (true ∷ bs) (suc i) e = every-at bs i e
+every-at (false ∷ bs) zero e = e
+every-at (false ∷ bs) (suc i) e = cc
+
+-- ---- a choice, seen through a function, and by a negated or a joined test
+
+pub push : {A B : Type 0} (f : A → B) (b : Bool) (x y : A) → f (if b then x else y) ≡ (if b then f x else f y)
+push f true x y = refl
+push f false x y = refl
+
+pub flip : {A : Type 0} (b : Bool) (x y : A) → (if not b then x else y) ≡ (if b then y else x)
+flip true x y = refl
+flip false x y = refl
+
+pub either : {A : Type 0} (a b : Bool) (x y : A) → (if a || b then x else y) ≡ (if a then x else (if b then x else y))
+either true b x y = refl
+either false b x y = refl

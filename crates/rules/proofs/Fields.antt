@@ -1,0 +1,300 @@
+-- Every number of the ledger's record fits its field.
+use Prim.Native.Nat.{ℕ, zero, suc, _+_, _*_, _^_, _<_, _≤_}
+use mathlib.Core.Path.{_≡_, refl, sym, ap, _∙_}
+use mathlib.Core.Bool.{Bool, true, false, not, _&&_, _||_}
+use mathlib.Core.Option.{Option, none, some}
+use mathlib.Core.List.{List, [], _∷_}
+use native.Mathlib.Omega.{arith}
+use native.Mathlib.Nat.{lt-of-le-of-lt, lt-of-lt-of-le, le-of-suc-le-suc}
+use lib.IntN.{ℤ, pos, negsuc, natAbs}
+use lib.Signed.{mag, natAbs-le, ltZ}
+use lib.Dec.{ltb, leb, eqb, lit<}
+use lib.Pow.{pow-mono}
+use borrow.Author.Tests.{ltb-true, lt-ltb, leb-true, leb-false, le-leb, eq-eqb}
+use Rattle.rules.proofs.Bools.{both, test, every-at}
+use Rattle.rules.proofs.Integers.{tests}
+use Rattle.rules.proofs.Logs.{all-mono, first-all, last-all, lastAt-all, size-map, all-map}
+use Rattle.rules.proofs.Sums.{Σ<-ext, Σ<-le, below}
+use Rattle.rules.proofs.Place.{held, held-small, held-pow, small, sum-low}
+use Rattle.rules.proofs.Series.{accept-facts, accept-small, taken-all, opening-good, no-freeze}
+use Rattle.rules.proofs.Prices.{size-upTo, FairAnswer, opened, used, wait, fair, void, refusal, decide-fair}
+use Rattle.rules.specs.Log.{Log, ε, _▹_, if_then_else_, _orElse_, maybe, size, put, all, first, last, lastAt, map, Σ<, every, upTo}
+use Rattle.rules.specs.Bytes.{fitsUnsigned, fitsSigned, fits}
+use Rattle.rules.specs.Answers.{Result, ok, refused, Method, number, Answer, Settle, final}
+use Rattle.rules.specs.Terms.{goodTerms, termsTests, slots, goodExponent}
+use Rattle.rules.specs.Prints.{Print, Quote, accept}
+use Rattle.rules.specs.Mean.{rounded, numerator, denominator, mean}
+use Rattle.rules.specs.Taking.{Candidates, canonical, links, follows}
+use Rattle.rules.specs.Series.{Opening, Command, Open, Offer, Ask, Fix, Series, empty, live, fixed, decided}
+use Rattle.rules.specs.Record.{openingFields, candidatesFields, openingFits, candidatesFit, outcomeFits, seriesFits}
+use Rattle.rules.specs.Ledger.{goodOpen, opening, Posting, postings, holder, chain, fallback, greatest, fillsSlot, candidates, pricesFor, Freeze, decidedOn, freezes, freeze, takenPrints, since, ledger}
+
+-- ---- prints and commands in range
+
+abbrev pub commandFits : Command → Bool
+commandFits (Open o) = openingFits o
+commandFits (Offer q now) = every (fits (q .price) ∷ fits (q .published) ∷ fits now ∷ [])
+commandFits (Ask now) = fits now
+commandFits (Fix now) = fits now
+
+abbrev pub postingTests : Posting → List Bool
+postingTests p = small p ∷ fits (p .print .published) ∷ fits (p .now) ∷ []
+
+abbrev pub postingFits : Posting → Bool
+postingFits p = every (postingTests p)
+
+posting-price : (p : Posting) → postingFits p ≡ true → fitsUnsigned 8 (p .print .price) ≡ true
+posting-price p h = lt-ltb (p .print .price) (2 ^ 64) (lt-of-le-of-lt (leb-true (p .print .price) (2 ^ 63) (every-at (postingTests p) 0 h)) (lit< tt))
+
+maybe-published : (x : Option Posting) → maybe true postingFits x ≡ true → fits (maybe (pos 0) (λ p. p .print .published) x) ≡ true
+maybe-published none h = refl
+maybe-published (some p) h = every-at (postingTests p) 1 h
+
+maybe-now : (x : Option Posting) → maybe true postingFits x ≡ true → fits (maybe (pos 0) (λ p. p .now) x) ≡ true
+maybe-now none h = refl
+maybe-now (some p) h = every-at (postingTests p) 2 h
+
+maybe-price : (x : Option Posting) → maybe true postingFits x ≡ true → fitsUnsigned 8 (maybe 0 (λ p. p .print .price) x) ≡ true
+maybe-price none h = refl
+maybe-price (some p) h = posting-price p h
+
+-- ---- the chain
+
+module _ (o : Opening) where
+  abbrev linked : Log Posting → Posting → Bool
+  linked ps p = links (o .terms) (o .expiry) (map (λ q. q .print .published) (chain o ps)) (p .print)
+
+  pub chain-all : (Q : Posting → Bool) (ps : Log Posting) → all Q ps ≡ true → all Q (chain o ps) ≡ true
+  unfolding chain
+  chain-all Q ε h = refl
+  chain-all Q (ps ▹ p) h = let (a, b) = both (all Q ps) (Q p) h in go (linked ps p) (chain-all Q ps a) b
+    where
+      go : (t : Bool) → all Q (chain o ps) ≡ true → Q p ≡ true → all Q (if t then chain o ps ▹ p else chain o ps) ≡ true
+      go true r b = rw (r, b)
+      go false r b = r
+
+  pub chain-size : (ps : Log Posting) → size (map (λ p. p .print .published) (chain o ps)) ≤ o .terms .k
+  unfolding chain links
+  chain-size ε = omega arith
+  chain-size (ps ▹ p) = go (linked ps p) refl (chain-size ps)
+    where
+      ts : Log ℤ
+      ts = map (λ q. q .print .published) (chain o ps)
+
+      go : (b : Bool) → linked ps p ≡ b → size ts ≤ o .terms .k
+          → size (map (λ q. q .print .published) (if b then chain o ps ▹ p else chain o ps)) ≤ o .terms .k
+      go true l r = ltb-true _ _ (both (ltb (size ts) (o .terms .k)) (follows (o .terms) (o .expiry) ts (p .print)) l .0)
+      go false l r = r
+
+pub bits-below : (o : Opening) (ps : Log Posting) → candidates o ps .bits < 2 ^ slots (o .terms)
+unfolding candidates
+bits-below o ps =
+    rw (Σ<-ext (slots (o .terms)) (λ i. maybe 0 (λ p. 2 ^ i) (holder o ps i)) (λ i. held (holder o ps i) * 2 ^ i) (λ i _. held-pow (holder o ps i) i))
+    (below (λ i. held (holder o ps i)) (λ i. held-small (holder o ps i)) (slots (o .terms)))
+
+-- ---- the ledger's candidates
+
+module _ (o : Opening) (ps : Log Posting) (g : goodTerms (o .terms) ≡ true) (h : all postingFits ps ≡ true) where
+  slots-32 : slots (o .terms) ≤ 32
+  unfolding goodTerms
+  slots-32 = leb-true (slots (o .terms)) 32 (every-at (termsTests (o .terms)) 3 g)
+
+  k-5 : o .terms .k ≤ 5
+  unfolding goodTerms
+  k-5 = leb-true (o .terms .k) 5 (every-at (termsTests (o .terms)) 8 g)
+
+  chain-fits : all postingFits (chain o ps) ≡ true
+  chain-fits = chain-all o postingFits ps h
+
+  fallback-fits : maybe true postingFits (fallback o ps) ≡ true
+  unfolding fallback
+  fallback-fits = first-all (greatest o ps) postingFits ps h
+
+  bits-fit : fitsUnsigned 4 (candidates o ps .bits) ≡ true
+  bits-fit = lt-ltb _ _ (lt-of-lt-of-le (bits-below o ps) (pow-mono slots-32))
+
+  sum-fit : fitsUnsigned 16 (candidates o ps .sum) ≡ true
+  sum-fit = lt-ltb _ _ (lt-of-le-of-lt (sum-low o ps g (all-mono postingFits small (λ p f. every-at (postingTests p) 0 f) ps h)) (lit< tt))
+
+  few-links : leb (size (map (λ p. p .print .published) (chain o ps))) 5 ≡ true
+  few-links = le-leb (size (map (λ p. p .print .published) (chain o ps))) 5 (omega (arith, chain-size o ps, k-5))
+
+  same-links : eqb (size (map (λ p. p .print .price) (chain o ps))) (size (map (λ p. p .print .published) (chain o ps))) ≡ true
+  same-links = eq-eqb _ _ (size-map (λ p. p .print .price) (chain o ps) ∙ sym (size-map (λ p. p .print .published) (chain o ps)))
+
+  pub candidates-fit : candidatesFit (candidates o ps) ≡ true
+  unfolding candidatesFit candidates
+  candidates-fit =
+      rw (
+        bits-fit,
+        sum-fit,
+        few-links,
+        same-links,
+        all-map fits (λ p. p .print .published) (chain o ps) (all-mono postingFits (λ p. fits (p .print .published)) (λ p f. every-at (postingTests p) 1 f) (chain o ps) chain-fits),
+        all-map (fitsUnsigned 8) (λ p. p .print .price) (chain o ps) (all-mono postingFits (λ p. fitsUnsigned 8 (p .print .price)) posting-price (chain o ps) chain-fits),
+        maybe-published (fallback o ps) fallback-fits,
+        maybe-price (fallback o ps) fallback-fits,
+        maybe-now (lastAt (fillsSlot o) ps) (lastAt-all postingFits (fillsSlot o) ps h),
+        maybe-now (last (chain o ps)) (last-all postingFits (chain o ps) chain-fits),
+        maybe-now (fallback o ps) fallback-fits,
+      )
+
+  -- ---- samples and the price
+
+  slots-few : size (map (λ p. p .print .price) (upTo (slots (o .terms)) (holder o ps))) ≤ 32
+  slots-few =
+      omega (
+        arith,
+        size-upTo (slots (o .terms)) (holder o ps),
+        slots-32,
+        Σ<-le (slots (o .terms)) 1 (λ n. held (holder o ps n)) (λ n l. le-of-suc-le-suc (held-small (holder o ps n))),
+      )
+
+  chain-few : size (map (λ p. p .print .price) (chain o ps)) ≤ 32
+  chain-few = omega (arith, size-map (λ p. p .print .price) (chain o ps), size-map (λ p. p .print .published) (chain o ps), chain-size o ps, k-5)
+
+  fallback-few : (f : Option Posting) → size (map (λ p. p .print .price) (put ε f)) ≤ 32
+  fallback-few none = omega arith
+  fallback-few (some p) = omega arith
+
+  few : (m : Method) → size (pricesFor o ps m) ≤ 32
+  unfolding pricesFor
+  few Method.Window = slots-few
+  few Method.NextPrint = chain-few
+  few Method.PartialNextPrint = chain-few
+  few Method.PartialWindow = slots-few
+  few Method.Fallback = fallback-few (fallback o ps)
+  few Method.Void = omega arith
+
+mean-fits : (s n : ℕ) (e : ℤ) (p : ℕ) → mean s n e ≡ ok p → fitsUnsigned 8 p ≡ true
+unfolding mean
+mean-fits s n e p h = go (goodExponent e) (eqb n 0) (leb (2 ^ 64) a) refl h
+  where
+    a : ℕ
+    a = rounded (numerator s e) (denominator n e)
+
+    go : (x y z : Bool) → leb (2 ^ 64) a ≡ z → (if not x then refused 12 else if y || z then refused 0 else ok a) ≡ ok p → fitsUnsigned 8 p ≡ true
+    go true false false q h = let m : a ≡ p = cc in lt-ltb p (2 ^ 64) (omega (tests, leb-false (2 ^ 64) a q, m))
+    go true false true q h = cc
+    go true true z q h = cc
+    go false y z q h = cc
+
+module _ (o : Opening) (ps : Log Posting) (g : goodTerms (o .terms) ≡ true) (h : all postingFits ps ≡ true) where
+  pub outcome-fits : (t : ℤ) → final (decided o (candidates o ps) t) ≡ true → outcomeFits (decided o (candidates o ps) t) ≡ true
+  outcome-fits t f = go (decide-fair o ps g t) f
+    where
+      go : {a : Answer} → FairAnswer o ps a → final a ≡ true → outcomeFits a ≡ true
+      go opened f = f
+      go used f = f
+      go wait f = f
+      go (fair {m = m} {p = p} {n = n} s) f =
+          rw (
+            lt-ltb (number m) (number Method.Void) (s .byPrice),
+            mean-fits _ _ (o .terms .exponent) p (s .priced),
+            lt-ltb n (2 ^ 16) (omega (arith, s .counted, few o ps g h m)),
+          )
+      go void f = refl
+      go refusal f = f
+
+-- ---- the ledger
+
+pub postings-fit : (j : Log Command) → all commandFits j ≡ true → all postingFits (postings j) ≡ true
+postings-fit j h = taken-all postingFits commandFits posting j h
+  where
+    posting : (o : Opening) (q : Quote) (now : ℤ) (p : Print) → commandFits (Offer q now) ≡ true → accept (o .terms .exponent) (o .bps) q ≡ ok p
+        → postingFits (record { print = p; now = now }) ≡ true
+    posting o q now p f e =
+        let tests : List Bool = fits (q .price) ∷ fits (q .published) ∷ fits now ∷ [] in
+        let (_, m) = accept-facts (o .terms .exponent) (o .bps) q p e in
+        let s = accept-small (o .terms .exponent) (o .bps) q p (every-at tests 0 f) e in
+        let w : fits (p .published) ≡ true = ap (λ (x : Print). fits (x .published)) (sym m) ∙ every-at tests 1 f in
+        rw (s, w, every-at tests 2 f)
+
+pub opening-fits : (j : Log Command) (o : Opening) → all commandFits j ≡ true → opening j ≡ some o → openingFits o ≡ true
+unfolding opening
+opening-fits ε o h e = cc
+opening-fits (j ▹ c) o h e =
+    let (a, b) = both (all commandFits j) (commandFits c) h in
+    go (opening j) c refl b e (opening-fits j o a)
+  where
+    go : (x : Option Opening) (c : Command) → opening j ≡ x → commandFits c ≡ true → x orElse goodOpen c ≡ some o
+        → (opening j ≡ some o → openingFits o ≡ true) → openingFits o ≡ true
+    go (some x) c d b e r = r (d ∙ e)
+    go none (Open x) d b e r = at (goodTerms (x .terms)) e
+      where
+        at : (t : Bool) → (if t then some x else none) ≡ some o → openingFits o ≡ true
+        at true e = let y : x ≡ o = cc in rw (← y) b
+        at false e = cc
+    go none (Offer q now) d b e r = cc
+    go none (Ask now) d b e r = cc
+    go none (Fix now) d b e r = cc
+
+-- what the freeze is: a fix with commands in range ahead of it, and a final decision
+module _ (z : Freeze) where
+  pub freeze-fits : (j : Log Command) → all commandFits j ≡ true → freeze j ≡ some z → (all commandFits (z .ahead) ≡ true) × (fits (z .now) ≡ true)
+  unfolding freeze
+  freeze-fits ε h e = (cc, cc)
+  freeze-fits (j ▹ c) h e =
+      let (a, b) = both (all commandFits j) (commandFits c) h in
+      go (freeze j) c refl a b e (freeze-fits j a)
+    where
+      goal : Type 0
+      goal = (all commandFits (z .ahead) ≡ true) × (fits (z .now) ≡ true)
+
+      go : (x : Option Freeze) (c : Command) → freeze j ≡ x → all commandFits j ≡ true → commandFits c ≡ true → x orElse freezes j c ≡ some z → (freeze j ≡ some z → goal) → goal
+      go (some x) c d a b e r = r (d ∙ e)
+      go none (Open x) d a b e r = (cc, cc)
+      go none (Offer q now) d a b e r = (cc, cc)
+      go none (Ask now) d a b e r = (cc, cc)
+      go none (Fix now) d a b e r = at (final (decidedOn (opening j) (postings j) now)) e
+        where
+          at : (t : Bool) → (if t then some (record { ahead = j; now = now }) else none) ≡ some z → goal
+          at true e = let y : _≡_ {A = Freeze} (record { ahead = j; now = now }) z = cc in (rw (← y) a, rw (← y) b)
+          at false e = (cc, cc)
+
+  pub freeze-final : (j : Log Command) (o : Opening) → freeze j ≡ some z → opening j ≡ some o → final (decided o (candidates o (postings (z .ahead))) (z .now)) ≡ true
+  unfolding freeze opening
+  freeze-final ε o f e = cc
+  freeze-final (j ▹ c) o f e = go (opening j) (freeze j) c refl refl e f (freeze-final j o)
+    where
+      goal : Type 0
+      goal = final (decided o (candidates o (postings (z .ahead))) (z .now)) ≡ true
+
+      go : (a : Option Opening) (y : Option Freeze) (c : Command) → opening j ≡ a → freeze j ≡ y → a orElse goodOpen c ≡ some o → y orElse freezes j c ≡ some z
+          → (freeze j ≡ some z → opening j ≡ some o → goal) → goal
+      go none (some y) c d g e f r = let h = no-freeze j d in cc
+      go none none (Open q) d g e f r = cc
+      go none none (Offer q now) d g e f r = cc
+      go none none (Ask now) d g e f r = cc
+      go none none (Fix now) d g e f r = let h = rw d at f in cc
+      go (some x) (some y) c d g e f r = r (g ∙ f) (d ∙ e)
+      go (some x) none (Open q) d g e f r = cc
+      go (some x) none (Offer q now) d g e f r = cc
+      go (some x) none (Ask now) d g e f r = cc
+      go (some x) none (Fix now) d g e f r = at (final (decided x (candidates x (postings j)) now)) refl (rw d at f)
+        where
+          at : (b : Bool) → final (decided x (candidates x (postings j)) now) ≡ b → (if b then some (record { ahead = j; now = now }) else none) ≡ some z → goal
+          at true h f =
+              let p : _≡_ {A = Freeze} (record { ahead = j; now = now }) z = cc in
+              let q : x ≡ o = cc in
+              rw (← p, ← q) h
+          at false h f = cc
+
+pub ledger-fits : (j : Log Command) → all commandFits j ≡ true → seriesFits (ledger j) ≡ true
+unfolding ledger takenPrints
+ledger-fits j h = go (opening j) (freeze j) refl refl
+  where
+    go : (o : Option Opening) (z : Option Freeze) → opening j ≡ o → freeze j ≡ z
+        → seriesFits (maybe empty (λ q. since q (candidates q (maybe (postings j) (λ y. postings (y .ahead)) z)) z) o) ≡ true
+    go none z e f = refl
+    go (some o) none e f =
+        rw (opening-fits j o h e, candidates-fit o (postings j) (opening-good j o e) (postings-fit j h))
+    go (some o) (some z) e f =
+        let (a, n) = freeze-fits z j h f in
+        let ps = postings (z .ahead) in
+        rw (
+          opening-fits j o h e,
+          candidates-fit o ps (opening-good j o e) (postings-fit (z .ahead) a),
+          outcome-fits o ps (opening-good j o e) (postings-fit (z .ahead) a) (z .now) (freeze-final z j o f e),
+          n,
+        )

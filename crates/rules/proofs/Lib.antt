@@ -1,0 +1,16 @@
+pub mod Bools
+pub mod Integers
+pub mod Sums
+pub mod Logs
+pub mod Fallback
+pub mod Place
+pub mod Series
+pub mod Waits
+pub mod Prices
+pub mod State
+pub mod Fields
+pub mod Acceptable
+pub mod Bytes
+pub mod Record
+pub mod Examples
+pub mod Decision

@@ -1,0 +1,139 @@
+-- Facts about logs: first, last, all, map, and the first n of a list.
+use Prim.Native.Nat.{ℕ, zero, suc, _<_, _≤_}
+use mathlib.Core.Path.{_≡_, refl, sym, ap, ap₂, _∙_, fun-ext}
+use mathlib.Core.Bool.{Bool, true, false, not, _&&_, _||_}
+use mathlib.Core.Option.{Option, none, some}
+use mathlib.Core.List.{List, [], _∷_}
+use native.Mathlib.Omega.{arith}
+use lib.ListN.{getD}
+use lib.Dec.{eqb}
+use lib.Arith.{lt-of-le-ne}
+use borrow.Author.Tests.{eq-eqb, ne-eqb, eqb-true, eqb-false}
+use Rattle.rules.proofs.Bools.{both}
+use Rattle.rules.specs.Log.{Log, ε, _▹_, if_then_else_, _orElse_, maybe, size, put, all, first, last, lastAt, map, nth, front}
+
+module _ {A : Type 0} where
+  pub all-mono : (P Q : A → Bool) → ((x : A) → P x ≡ true → Q x ≡ true) → (l : Log A) → all P l ≡ true → all Q l ≡ true
+  all-mono P Q h ε e = refl
+  all-mono P Q h (l ▹ x) e = let (a, b) = both (all P l) (P x) e in rw (all-mono P Q h l a, h x b)
+
+  pub first-none : (P : A → Bool) (l : Log A) → all (λ x. not (P x)) l ≡ true → first P l ≡ none
+  first-none P ε e = refl
+  first-none P (l ▹ x) e = let (a, b) = both (all (λ y. not (P y)) l) (not (P x)) e in rw (first-none P l a) (go (P x) b)
+    where
+      go : (t : Bool) → not t ≡ true → (if t then some x else none) ≡ none
+      go true e = cc
+      go false e = refl
+
+  pub first-some : (P : A → Bool) (l : Log A) (q : A) → first P l ≡ some q → P q ≡ true
+  first-some P ε q e = cc
+  first-some P (l ▹ x) q e = go (first P l) (P x) refl refl e (λ d. first-some P l q d)
+    where
+      go : (a : Option A) (t : Bool) → first P l ≡ a → P x ≡ t → a orElse (if t then some x else none) ≡ some q → (first P l ≡ some q → P q ≡ true) → P q ≡ true
+      go (some y) t d f e r = r (d ∙ e)
+      go none true d f e r = let g : x ≡ q = cc in ap P (sym g) ∙ f
+      go none false d f e r = cc
+
+  pub first-ext : (P Q : A → Bool) → ((x : A) → P x ≡ Q x) → (l : Log A) → first P l ≡ first Q l
+  first-ext P Q h l = ap (λ (R : A → Bool). first R l) (fun-ext h)
+
+  -- a stronger test finds nothing where a weaker one finds nothing
+  pub first-weaker : (P Q : A → Bool) → ((x : A) → Q x ≡ true → P x ≡ true) → (l : Log A) → first P l ≡ none → first Q l ≡ none
+  first-weaker P Q h ε e = refl
+  first-weaker P Q h (l ▹ x) e = go (first P l) (P x) (Q x) refl refl refl e (λ d. first-weaker P Q h l d)
+    where
+      go : (a : Option A) (s t : Bool) → first P l ≡ a → P x ≡ s → Q x ≡ t → a orElse (if s then some x else none) ≡ none
+          → (first P l ≡ none → first Q l ≡ none) → first Q l orElse (if t then some x else none) ≡ none
+      go (some y) s t d f g e r = cc
+      go none true t d f g e r = cc
+      go none false true d f g e r = let z = h x g in cc
+      go none false false d f g e r = rw (r d)
+
+  -- what the weaker test finds first is what the stronger one does, if it passes that
+  pub first-stronger : (P Q : A → Bool) → ((x : A) → Q x ≡ true → P x ≡ true) → (l : Log A) (q : A) → first P l ≡ some q → Q q ≡ true → first Q l ≡ some q
+  first-stronger P Q h ε q e t = e
+  first-stronger P Q h (l ▹ x) q e t = go (first P l) (P x) refl refl e (λ d. first-stronger P Q h l q d t)
+    where
+      go : (a : Option A) (s : Bool) → first P l ≡ a → P x ≡ s → a orElse (if s then some x else none) ≡ some q
+          → (first P l ≡ some q → first Q l ≡ some q) → first Q l orElse (if Q x then some x else none) ≡ some q
+      go (some y) s d f e r = rw (r (d ∙ e))
+      go none true d f e r = let g : x ≡ q = cc in rw (first-weaker P Q h l d, g, t)
+      go none false d f e r = cc
+
+  pub orElse-none : (a : Option A) → a orElse none ≡ a
+  orElse-none none = refl
+  orElse-none (some x) = refl
+
+  -- ---- a test that all of a log pass, of what is found in it
+
+  pub all-put : (P : A → Bool) (l : Log A) (m : Option A) → all P l ≡ true → maybe true P m ≡ true → all P (put l m) ≡ true
+  all-put P l none a b = a
+  all-put P l (some x) a b = rw (a, b)
+
+  pub first-all : (P Q : A → Bool) (l : Log A) → all Q l ≡ true → maybe true Q (first P l) ≡ true
+  first-all P Q ε a = refl
+  first-all P Q (l ▹ x) a = let (b, c) = both (all Q l) (Q x) a in go (first P l) (P x) (first-all P Q l b) c
+    where
+      go : (h : Option A) (t : Bool) → maybe true Q h ≡ true → Q x ≡ true → maybe true Q (h orElse (if t then some x else none)) ≡ true
+      go none true b c = c
+      go none false b c = refl
+      go (some y) t b c = b
+
+  pub last-all : (Q : A → Bool) (l : Log A) → all Q l ≡ true → maybe true Q (last l) ≡ true
+  last-all Q ε h = refl
+  last-all Q (l ▹ x) h = both (all Q l) (Q x) h .1
+
+  pub lastAt-all : (Q : A → Bool) (P : Log A → A → Bool) (l : Log A) → all Q l ≡ true → maybe true Q (lastAt P l) ≡ true
+  lastAt-all Q P ε h = refl
+  lastAt-all Q P (l ▹ x) h = let (a, b) = both (all Q l) (Q x) h in go (P l x) (lastAt-all Q P l a) b
+    where
+      go : (t : Bool) → maybe true Q (lastAt P l) ≡ true → Q x ≡ true → maybe true Q (if t then some x else lastAt P l) ≡ true
+      go true r b = b
+      go false r b = r
+
+  -- ---- the first n of a list
+
+  pub front-ext : (d : A) (n : ℕ) (xs ys : List A) → ((i : ℕ) → i < n → getD xs i d ≡ getD ys i d) → front d n xs ≡ front d n ys
+  unfolding front
+  front-ext d zero xs ys h = refl
+  front-ext d (suc n) xs ys h = ap₂ _▹_ (front-ext d n xs ys (λ i l. h i (omega arith))) (h n (omega arith))
+
+  pub size-front : (d : A) (n : ℕ) (xs : List A) → size (front d n xs) ≡ n
+  unfolding front
+  size-front d zero xs = refl
+  size-front d (suc n) xs = ap suc (size-front d n xs)
+
+  pub nth-after : (d : A) (l : Log A) (i : ℕ) → size l ≤ i → nth d l i ≡ d
+  unfolding nth
+  nth-after d ε i h = refl
+  nth-after d (l ▹ x) i h = rw (ne-eqb i (size l) (omega arith)) (nth-after d l i (omega arith))
+
+  pub nth-front : (d : A) (n : ℕ) (xs : List A) (i : ℕ) → i < n → nth d (front d n xs) i ≡ getD xs i d
+  unfolding front nth
+  nth-front d zero xs i h = let c : ⊥ = omega arith in absurd c
+  nth-front d (suc n) xs i h = go (eqb i (size (front d n xs))) refl (nth-front d n xs i)
+    where
+      go : (b : Bool) → eqb i (size (front d n xs)) ≡ b → (i < n → nth d (front d n xs) i ≡ getD xs i d)
+          → (if b then getD xs n d else nth d (front d n xs) i) ≡ getD xs i d
+      go true e r = let q = eqb-true i (size (front d n xs)) e in rw (q, size-front d n xs)
+      go false e r =
+          let q = eqb-false i (size (front d n xs)) e in
+          let s = size-front d n xs in
+          r (lt-of-le-ne (omega arith) (λ z. q (omega arith)))
+
+  -- the log that reads each place of l is l
+  pub front-nth : (d : A) (l : Log A) (xs : List A) → ((i : ℕ) → i < size l → getD xs i d ≡ nth d l i) → front d (size l) xs ≡ l
+  unfolding front nth
+  front-nth d ε xs h = refl
+  front-nth d (l ▹ x) xs h =
+      ap₂ _▹_ (front-nth d l xs (λ i m. h i (omega arith) ∙ rw (ne-eqb i (size l) (omega arith))))
+      (h (size l) (omega arith) ∙ rw (eq-eqb (size l) (size l) refl))
+
+module _ {A B : Type 0} where
+  pub size-map : (f : A → B) (l : Log A) → size (map f l) ≡ size l
+  size-map f ε = refl
+  size-map f (l ▹ x) = ap suc (size-map f l)
+
+  pub all-map : (Q : B → Bool) (f : A → B) (l : Log A) → all (λ x. Q (f x)) l ≡ true → all Q (map f l) ≡ true
+  all-map Q f ε h = refl
+  all-map Q f (l ▹ x) h = let (a, b) = both (all (λ y. Q (f y)) l) (Q (f x)) h in rw (all-map Q f l a, b)

@@ -1,0 +1,172 @@
+-- A Settle's price is the mean of the prices that its method takes from the ledger, and samples is how many these are.
+use Prim.Native.Nat.{ℕ, zero, suc, _+_, _*_, _/_, _%_, _^_, _<_, _≤_}
+use mathlib.Core.Path.{_≡_, refl, sym, ap, _∙_}
+use mathlib.Core.Bool.{Bool, true, false, not, _&&_, _||_}
+use mathlib.Core.Option.{Option, none, some}
+use native.Mathlib.Omega.{arith}
+use lib.IntN.{ℤ, pos, _+ℤ_}
+use lib.Signed.{ltZ}
+use lib.Dec.{ltb, leb, eqb}
+use borrow.Author.Tests.{leb-true, leb-false, ltb-true}
+use Rattle.rules.proofs.Bools.{every-at}
+use Rattle.rules.proofs.Logs.{size-map}
+use Rattle.rules.proofs.Sums.{Σ<-ext, Σ<-stop, digit, digit-above}
+use Rattle.rules.proofs.Place.{held, held-small, held-pow}
+use Rattle.rules.proofs.Decision.{decide-each}
+use Rattle.rules.proofs.Series.{opening-good}
+use Rattle.rules.specs.Log.{Log, ε, _▹_, if_then_else_, maybe, size, put, map, total, Σ<, upTo}
+use Rattle.rules.specs.Bytes.{fits}
+use Rattle.rules.specs.Answers.{Result, ok, refused, Method, number, Answer, Opened, Used, Wait, Settle, Refused, final, isUsed}
+use Rattle.rules.specs.Terms.{slots, goodTerms, termsTests, goodExponent}
+use Rattle.rules.specs.Prints.{Print, accept}
+use Rattle.rules.specs.Mean.{rounded, numerator, denominator, mean}
+use Rattle.rules.specs.Taking.{Candidates, slotFor, isLink, isFallback, usable, timesFit, sumFits, printAnswer}
+use Rattle.rules.specs.Decision.{ones, maxZ, settleAt, from, settle, H, decide}
+use Rattle.rules.specs.Series.{Opening, Command, Open, Offer, Ask, Fix, Series, live, fixed, keeps, leaves, decided, offered, waiting, fixing, step, answerOf, answer}
+use Rattle.rules.specs.Ledger.{Posting, opening, candidates, holder, chain, fallback, pricesFor, FairSettle, Freeze, freeze, takenPrints, since, ledger}
+
+-- an answer that is no Settle, or a fair one
+pub data FairAnswer (o : Opening) (ps : Log Posting) : Answer → Type 0 where
+  opened : FairAnswer o ps Opened
+  used : {s l : Option ℕ} {f : Bool} → FairAnswer o ps (Used s l f)
+  wait : {t : ℤ} → FairAnswer o ps (Wait t)
+  fair : {m : Method} {p n : ℕ} → FairSettle o ps m p n → FairAnswer o ps (Settle m p n)
+  void : FairAnswer o ps Answer.Void
+  refusal : {r : ℕ} → FairAnswer o ps (Refused r)
+
+-- ---- sums and counts of the slots
+
+total-upTo : (n : ℕ) (h : ℕ → Option Posting) → total (map (λ p. p .print .price) (upTo n h)) ≡ Σ< n (λ i. maybe 0 (λ p. p .print .price) (h i))
+total-upTo zero h = refl
+total-upTo (suc n) h = go (h n) (total-upTo n h)
+  where
+    go : (m : Option Posting) → total (map (λ p. p .print .price) (upTo n h)) ≡ Σ< n (λ i. maybe 0 (λ p. p .print .price) (h i))
+        → total (map (λ p. p .print .price) (put (upTo n h) m)) ≡ Σ< n (λ i. maybe 0 (λ p. p .print .price) (h i)) + maybe 0 (λ p. p .print .price) m
+    go none r = omega arith
+    go (some p) r = rw r
+
+pub size-upTo : (n : ℕ) (h : ℕ → Option Posting) → size (map (λ p. p .print .price) (upTo n h)) ≡ Σ< n (λ i. held (h i))
+unfolding held
+size-upTo zero h = refl
+size-upTo (suc n) h = go (h n) (size-upTo n h)
+  where
+    go : (m : Option Posting) → size (map (λ p. p .print .price) (upTo n h)) ≡ Σ< n (λ i. held (h i))
+        → size (map (λ p. p .print .price) (put (upTo n h) m)) ≡ Σ< n (λ i. held (h i)) + held m
+    go none r = omega arith
+    go (some p) r = omega arith
+
+module _ (o : Opening) (ps : Log Posting) (g : goodTerms (o .terms) ≡ true) where
+  abbrev slotPrices : Log ℕ
+  slotPrices = map (λ p. p .print .price) (upTo (slots (o .terms)) (holder o ps))
+
+  -- the bits of the first m, for m at or above slots
+  bits-upTo : (m : ℕ) → slots (o .terms) ≤ m → Σ< m (λ i. candidates o ps .bits / 2 ^ i % 2) ≡ Σ< (slots (o .terms)) (λ i. held (holder o ps i))
+  unfolding candidates
+  bits-upTo m l =
+      rw (Σ<-ext (slots (o .terms)) (λ i. maybe 0 (λ p. 2 ^ i) (holder o ps i)) (λ i. held (holder o ps i) * 2 ^ i) (λ i _. held-pow (holder o ps i) i))
+      (Σ<-stop (slots (o .terms)) m (λ i. Σ< (slots (o .terms)) (λ j. held (holder o ps j) * 2 ^ j) / 2 ^ i % 2) l (λ i h. digit-above (λ j. held (holder o ps j)) (λ j. held-small (holder o ps j)) (slots (o .terms)) i h)
+      ∙ Σ<-ext (slots (o .terms)) (λ i. Σ< (slots (o .terms)) (λ j. held (holder o ps j) * 2 ^ j) / 2 ^ i % 2) (λ i. held (holder o ps i)) (λ i h. digit (λ j. held (holder o ps j)) (λ j. held-small (holder o ps j)) (slots (o .terms)) i h))
+
+  ones-is : ones (candidates o ps .bits) ≡ size slotPrices
+  unfolding ones goodTerms
+  ones-is = bits-upTo 32 (leb-true (slots (o .terms)) 32 (every-at (termsTests (o .terms)) 3 g)) ∙ sym (size-upTo (slots (o .terms)) (holder o ps))
+
+  sum-is : candidates o ps .sum ≡ total slotPrices
+  unfolding candidates
+  sum-is = sym (total-upTo (slots (o .terms)) (holder o ps))
+
+  links-is : size (candidates o ps .times) ≡ size (map (λ p. p .print .price) (chain o ps))
+  unfolding candidates
+  links-is = size-map (λ p. p .print .published) (chain o ps) ∙ sym (size-map (λ p. p .print .price) (chain o ps))
+
+  prices-is : total (candidates o ps .prices) ≡ total (map (λ p. p .print .price) (chain o ps))
+  unfolding candidates
+  prices-is = refl
+
+  -- ---- each step of the decision
+
+  settle-fair : (c : Candidates) (t : ℤ) (m : Method) (s n : ℕ) → number m < number Method.Void → s ≡ total (pricesFor o ps m) → n ≡ size (pricesFor o ps m)
+      → FairAnswer o ps (settle (o .terms) (o .expiry) c t m s n)
+  settle-fair c t m s n h es en = go (mean s n (o .terms .exponent)) refl
+    where
+      go : (r : Result ℕ) → mean s n (o .terms .exponent) ≡ r → FairAnswer o ps (settleAt m n r)
+      go (ok p) e = fair {m = m} {p = p} {n = n} (record { byPrice = h; counted = en; priced = rw (← es, ← en) e })
+      go (refused r) e = refusal
+
+  fallback-fair : (c : Candidates) (t : ℤ) → ltb 0 (candidates o ps .fallbackPrice) ≡ true
+      → FairAnswer o ps (settle (o .terms) (o .expiry) c t Method.Fallback (candidates o ps .fallbackPrice) 1)
+  unfolding pricesFor candidates
+  fallback-fair c t e = let (s, n) = go (fallback o ps) e in settle-fair c t Method.Fallback (maybe 0 (λ p. p .print .price) (fallback o ps)) 1 (omega arith) s n
+    where
+      go : (f : Option Posting) → ltb 0 (maybe 0 (λ p. p .print .price) f) ≡ true
+          → (maybe 0 (λ p. p .print .price) f ≡ total (map (λ p. p .print .price) (put ε f))) × (1 ≡ size (map (λ p. p .print .price) (put ε f)))
+      go none e = (cc, cc)
+      go (some p) e = (omega arith, refl)
+
+  pub decide-fair : (t : ℤ) → FairAnswer o ps (decided o (candidates o ps) t)
+  unfolding pricesFor
+  decide-fair t =
+      decide-each (FairAnswer o ps) (o .terms) (o .expiry) c t (λ u. wait) refusal void
+      (settle-fair c t Method.Window (c .sum) _ (omega arith) sum-is ones-is)
+      (settle-fair c t Method.NextPrint (total (c .prices)) _ (omega arith) prices-is links-is)
+      (settle-fair c t Method.PartialNextPrint (total (c .prices)) _ (omega arith) prices-is links-is)
+      (settle-fair c t Method.PartialWindow (c .sum) _ (omega arith) sum-is ones-is)
+      (λ e. fallback-fair c t e)
+    where
+      c : Candidates
+      c = candidates o ps
+
+-- ---- every answer on the ledger
+
+module _ (o : Opening) (ps : Log Posting) where
+  waiting-fair : {a : Answer} → FairAnswer o ps a → FairAnswer o ps (waiting a)
+  waiting-fair opened = opened
+  waiting-fair used = used
+  waiting-fair wait = refusal
+  waiting-fair (fair f) = fair f
+  waiting-fair void = void
+  waiting-fair refusal = refusal
+
+  fixing-fair : (c : Candidates) (now : ℤ) (a : Answer) → FairAnswer o ps a → FairAnswer o ps (answerOf (fixing o c now a))
+  fixing-fair c now a f = go (final a)
+    where
+      go : (b : Bool) → FairAnswer o ps (answerOf (if b then leaves a (fixed o c a now) else keeps (waiting a)))
+      go true = f
+      go false = waiting-fair f
+
+  print-fair : (c : Candidates) (p : Print) → FairAnswer o ps (printAnswer (o .terms) (o .expiry) c p)
+  unfolding printAnswer
+  print-fair c p = go (not (timesFit (o .terms) (o .expiry) && sumFits (o .terms) (o .expiry) c p)) (not (usable (o .terms) (o .expiry) c p)) _ _ _
+    where
+      go : (a b : Bool) (s l : Option ℕ) (f : Bool) → FairAnswer o ps (if a then Refused 0 else if b then Refused 14 else Used s l f)
+      go true b s l f = refusal
+      go false true s l f = refusal
+      go false false s l f = used
+
+  offered-fair : (c : Candidates) (now : ℤ) (r : Result Print) → FairAnswer o ps (answerOf (offered o c now r))
+  offered-fair c now (refused r) = refusal
+  offered-fair c now (ok p) = go (isUsed (printAnswer (o .terms) (o .expiry) c p)) _
+    where
+      go : (b : Bool) (s : Series) → FairAnswer o ps (answerOf (if b then leaves (printAnswer (o .terms) (o .expiry) c p) s else keeps (printAnswer (o .terms) (o .expiry) c p)))
+      go true s = print-fair c p
+      go false s = print-fair c p
+
+pub answers-fair : (j : Log Command) (c : Command) (o : Opening) → opening j ≡ some o → FairAnswer o (takenPrints j) (answer (ledger j) c)
+unfolding ledger step
+answers-fair j c o e = rw e (go (freeze j) c)
+  where
+    ps : Log Posting
+    ps = takenPrints j
+
+    decision : (t : ℤ) → FairAnswer o ps (decided o (candidates o ps) t)
+    decision t = decide-fair o ps (opening-good j o e) t
+
+    go : (z : Option Freeze) (c : Command) → FairAnswer o ps (answer (since o (candidates o ps) z) c)
+    go none (Open q) = refusal
+    go none (Offer q now) = offered-fair o ps (candidates o ps) now (accept (o .terms .exponent) (o .bps) q)
+    go none (Ask now) = decision now
+    go none (Fix now) = fixing-fair o ps (candidates o ps) now (decided o (candidates o ps) now) (decision now)
+    go (some z) (Open q) = refusal
+    go (some z) (Offer q now) = refusal
+    go (some z) (Ask now) = decision (z .now)
+    go (some z) (Fix now) = refusal

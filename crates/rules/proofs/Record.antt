@@ -1,0 +1,317 @@
+-- What is written into a record is read back from it, and the ledger's record is acceptable.
+use Prim.Native.Nat.{ℕ, zero, suc, _+_, _*_, _-_, _/_, _%_, _^_, _<_, _≤_}
+use mathlib.Core.Path.{_≡_, refl, sym, ap, ap₂, _∙_}
+use mathlib.Core.Bool.{Bool, true, false, not, _&&_, _||_}
+use mathlib.Core.Option.{Option, none, some}
+use mathlib.Core.List.{List, [], _∷_, _++_}
+use native.Mathlib.Omega.{arith}
+use native.Mathlib.Nat.{div-add-mod', mod-lt}
+use lib.IntN.{ℤ, pos, negsuc}
+use lib.Signed.{mag}
+use lib.Dec.{ltb, leb, eqb, lit<}
+use lib.Pow.{shr-lt}
+use borrow.Author.Tests.{ltb-true, lt-ltb, eq-eqb, ne-eqb}
+use Rattle.rules.proofs.Bools.{both, test, every-at}
+use Rattle.rules.proofs.Bytes.{little-bytes, signed-word, word-below}
+use Rattle.rules.proofs.State.{fit-at, few-times, parts-back}
+use Rattle.rules.proofs.Decision.{byPrice}
+use Rattle.rules.proofs.Fields.{commandFits, ledger-fits}
+use Rattle.rules.proofs.Acceptable.{sound, ledger-sound}
+use Rattle.rules.specs.Log.{Log, ε, _▹_, if_then_else_, maybe, size, all, nth, every}
+use Rattle.rules.specs.Bytes.{Bytes, zeros, concat, little, signed, unsignedAt, signedAt, bytes, word, signedBytes, fitsUnsigned, fits}
+use Rattle.rules.specs.Answers.{Result, ok, refused, Method, number, method, Answer, Opened, Used, Wait, Settle, Refused, final}
+use Rattle.rules.specs.Terms.{goodTerms}
+use Rattle.rules.specs.Taking.{Candidates}
+use Rattle.rules.specs.State.{Parts, candidatesOf, partsOf, goodState}
+use Rattle.rules.specs.Series.{Opening, Command, Series, empty, live, fixed, decided}
+use Rattle.rules.specs.Record.{methodOf, samplesOf, priceOf, fields, bytesOf, outcome, openingIn, partsIn, tagIn, samplesIn, methodIn, fixingTimeIn, priceIn, seriesIn, bodyTests, openTests, fixedTests, acceptable, stored, openingFields, candidatesFields, openingFits, candidatesFit, outcomeFits, seriesFits}
+use Rattle.rules.specs.Ledger.{opening, takenPrints, candidates, Freeze, freeze, since, ledger}
+
+-- ---- single fields
+
+-- a time in eight bytes, an exponent in one
+signed-8 : (z : ℤ) → fits z ≡ true → signed 64 (little (signedBytes 8 z)) ≡ z
+signed-8 z f = ap (signed 64) (little-bytes 8 (word 64 z) (lt-ltb (word 64 z) (2 ^ 64) (word-below 63 z f))) ∙ signed-word 63 z f
+
+signed-1 : (z : ℤ) → ltb (mag z) (2 ^ 7) ≡ true → signed 8 (little (signedBytes 1 z)) ≡ z
+signed-1 z f = ap (signed 8) (little-bytes 1 (word 8 z) (lt-ltb (word 8 z) (2 ^ 8) (word-below 7 z f))) ∙ signed-word 7 z f
+
+nth-all : {A : Type 0} (Q : A → Bool) (d : A) (l : Log A) (j : ℕ) → Q d ≡ true → all Q l ≡ true → Q (nth d l j) ≡ true
+unfolding nth
+nth-all Q d ε j z h = z
+nth-all Q d (l ▹ x) j z h = let (a, b) = both (all Q l) (Q x) h in go (eqb j (size l)) (nth-all Q d l j z a) b
+  where
+    go : (t : Bool) → Q (nth d l j) ≡ true → Q x ≡ true → Q (if t then x else nth d l j) ≡ true
+    go true r b = b
+    go false r b = r
+
+-- ---- the opening and the state
+
+module _ (tag : ℕ) (o : Opening) (c : Candidates) (samples num : ℕ) (time : ℤ) (price : ℕ)
+    (fo : openingFits o ≡ true) (fc : candidatesFit c ≡ true) where
+  abbrev R : Bytes
+  R = concat (fields tag o (partsOf c) samples num time price)
+
+  o-at : (j : ℕ) → test (openingFields o) j ≡ true
+  unfolding openingFits
+  o-at j = every-at (openingFields o) j fo
+
+  pub opening-back : openingIn R ≡ o
+  unfolding openingIn unsignedAt signedAt fields zeros bytes partsOf
+  opening-back =
+      λ i. record {
+        terms =
+            record {
+              window = little-bytes 4 (o .terms .window) (o-at 0) i;
+              slot = little-bytes 4 (o .terms .slot) (o-at 1) i;
+              tolerance = little-bytes 2 (o .terms .tolerance) (o-at 2) i;
+              minimum = little-bytes 2 (o .terms .minimum) (o-at 3) i;
+              k = little-bytes 1 (o .terms .k) (o-at 4) i;
+              delay = little-bytes 4 (o .terms .delay) (o-at 5) i;
+              lookback = little-bytes 4 (o .terms .lookback) (o-at 6) i;
+              hard = little-bytes 4 (o .terms .hard) (o-at 7) i;
+              exponent = signed-1 (o .terms .exponent) (o-at 8) i;
+            };
+        bps = little-bytes 2 (o .bps) (o-at 9) i;
+        expiry = signed-8 (o .expiry) (o-at 10) i;
+      }
+
+  time-back : (j : ℕ) → signed 64 (little (signedBytes 8 (nth (pos 0) (c .times) j))) ≡ nth (pos 0) (c .times) j
+  time-back j = signed-8 (nth (pos 0) (c .times) j) (nth-all fits (pos 0) (c .times) j refl (fit-at c fc 4))
+
+  price-back : (j : ℕ) → little (bytes 8 (nth 0 (c .prices) j)) ≡ nth 0 (c .prices) j
+  price-back j = little-bytes 8 (nth 0 (c .prices) j) (nth-all (fitsUnsigned 8) 0 (c .prices) j refl (fit-at c fc 5))
+
+  sum-back : little (bytes 8 (c .sum / 2 ^ 64)) * 2 ^ 64 + little (bytes 8 (c .sum % 2 ^ 64)) ≡ c .sum
+  sum-back =
+      rw (
+        little-bytes 8 (c .sum / 2 ^ 64) (lt-ltb (c .sum / 2 ^ 64) (2 ^ 64) (shr-lt {n = c .sum} 64 64 (ltb-true (c .sum) (2 ^ 128) (fit-at c fc 1)))),
+        little-bytes 8 (c .sum % 2 ^ 64) (lt-ltb (c .sum % 2 ^ 64) (2 ^ 64) (mod-lt (c .sum) (lit< tt))),
+      )
+      (div-add-mod' (c .sum) (2 ^ 64))
+
+  links-fit : fitsUnsigned 1 (size (c .times)) ≡ true
+  links-fit = lt-ltb (size (c .times)) 256 (omega (arith, few-times c fc))
+
+  pub parts-read : partsIn R ≡ partsOf c
+  unfolding partsIn unsignedAt signedAt fields zeros bytes partsOf
+  parts-read =
+      λ i. record {
+        bits = little-bytes 4 (c .bits) (fit-at c fc 0) i;
+        sum = sum-back i;
+        links = little-bytes 1 (size (c .times)) links-fit i;
+        times = time-back 0 i ∷ time-back 1 i ∷ time-back 2 i ∷ time-back 3 i ∷ time-back 4 i ∷ [];
+        prices = price-back 0 i ∷ price-back 1 i ∷ price-back 2 i ∷ price-back 3 i ∷ price-back 4 i ∷ [];
+        fallbackTime = signed-8 (c .fallbackTime) (fit-at c fc 6) i;
+        fallbackPrice = little-bytes 8 (c .fallbackPrice) (fit-at c fc 7) i;
+        windowChanged = signed-8 (c .windowChanged) (fit-at c fc 8) i;
+        linkChanged = signed-8 (c .linkChanged) (fit-at c fc 9) i;
+        fallbackChanged = signed-8 (c .fallbackChanged) (fit-at c fc 10) i;
+      }
+
+  pub candidates-read : candidatesOf (partsIn R) ≡ c
+  candidates-read = ap candidatesOf parts-read ∙ parts-back c fc
+
+  -- ---- the outcome's fields
+
+  samples-read : fitsUnsigned 2 samples ≡ true → samplesIn R ≡ samples
+  unfolding unsignedAt fields zeros bytes partsOf
+  samples-read f = little-bytes 2 samples f
+
+  method-read : fitsUnsigned 1 num ≡ true → methodIn R ≡ num
+  unfolding unsignedAt fields zeros bytes partsOf
+  method-read f = little-bytes 1 num f
+
+  time-read : fits time ≡ true → fixingTimeIn R ≡ time
+  unfolding unsignedAt signedAt fields zeros bytes partsOf
+  time-read f = signed-8 time f
+
+  price-read : fitsUnsigned 8 price ≡ true → priceIn R ≡ price
+  unfolding unsignedAt fields zeros bytes partsOf
+  price-read f = little-bytes 8 price f
+
+  pad-read : unsignedAt R 37 3 ≡ 0
+  unfolding unsignedAt fields zeros bytes partsOf
+  pad-read = refl
+
+  tag-read : fitsUnsigned 1 tag ≡ true → tagIn R ≡ tag
+  unfolding unsignedAt fields zeros bytes partsOf
+  tag-read f = little-bytes 1 tag f
+
+  pub body-passes : goodTerms (o .terms) ≡ true → goodState (o .terms) (partsOf c) ≡ true → every (bodyTests R) ≡ true
+  body-passes g s = rw (opening-back, parts-read, g, s, pad-read)
+
+-- ---- outcomes
+
+-- a method is told by its number
+method-number : (m : Method) → method (number m) ≡ ok m
+unfolding method
+method-number Method.Window = refl
+method-number Method.NextPrint = refl
+method-number Method.PartialNextPrint = refl
+method-number Method.PartialWindow = refl
+method-number Method.Fallback = refl
+method-number Method.Void = refl
+
+number-small : (m : Method) → fitsUnsigned 1 (number m) ≡ true
+number-small Method.Window = refl
+number-small Method.NextPrint = refl
+number-small Method.PartialNextPrint = refl
+number-small Method.PartialWindow = refl
+number-small Method.Fallback = refl
+number-small Method.Void = refl
+
+priced-method : (m : Method) → ltb (number m) (number Method.Void) ≡ true → eqb (number m) (number Method.Void) ≡ false
+priced-method m h = ne-eqb (number m) 5 (λ e. let z = ltb-true (number m) 5 h in omega arith)
+
+method-fits : (a : Answer) → fitsUnsigned 1 (methodOf a) ≡ true
+method-fits (Settle m p n) = number-small m
+method-fits Answer.Void = refl
+method-fits Opened = refl
+method-fits (Used s l f) = refl
+method-fits (Wait t) = refl
+method-fits (Refused r) = refl
+
+pub outcome-back : (a : Answer) → final a ≡ true → byPrice a ≡ true → outcome (method (methodOf a)) (priceOf a) (samplesOf a) ≡ a
+outcome-back (Settle m p n) f h = rw (method-number m, priced-method m h)
+outcome-back Answer.Void f h = rw (method-number Method.Void)
+outcome-back Opened f h = cc
+outcome-back (Used s l u) f h = cc
+outcome-back (Wait t) f h = cc
+outcome-back (Refused r) f h = cc
+
+-- what it is for an outcome to fit
+fitting : (a : Answer) → outcomeFits a ≡ true → (final a ≡ true) × (byPrice a ≡ true) × (fitsUnsigned 2 (samplesOf a) ≡ true) × (fitsUnsigned 8 (priceOf a) ≡ true)
+fitting (Settle m p n) h =
+    let (x, b) = both (ltb (number m) (number Method.Void)) (fitsUnsigned 8 p && fitsUnsigned 2 n) h in
+    let (y, z) = both (fitsUnsigned 8 p) (fitsUnsigned 2 n) b in
+    (refl, x, z, y)
+fitting Answer.Void h = (refl, refl, refl, refl)
+fitting Opened h = (h, refl, refl, refl)
+fitting (Used s l f) h = (h, refl, refl, refl)
+fitting (Wait t) h = (h, refl, refl, refl)
+fitting (Refused r) h = (h, refl, refl, refl)
+
+-- ---- the series
+
+live-read : (o : Opening) (c : Candidates) → openingFits o ≡ true → candidatesFit c ≡ true → seriesIn (bytesOf (live o c)) ≡ live o c
+unfolding seriesIn bytesOf
+live-read o c fo fc =
+    rw (tag-read 1 o c 0 0 (pos 0) 0 fo fc refl, opening-back 1 o c 0 0 (pos 0) 0 fo fc, candidates-read 1 o c 0 0 (pos 0) 0 fo fc)
+
+module _ (o : Opening) (c : Candidates) (a : Answer) (at : ℤ) (fo : openingFits o ≡ true) (fc : candidatesFit c ≡ true) (fa : outcomeFits a ≡ true) (ft : fits at ≡ true) where
+  samples-back : samplesIn (bytesOf (fixed o c a at)) ≡ samplesOf a
+  unfolding bytesOf
+  samples-back = samples-read 2 o c (samplesOf a) (methodOf a) at (priceOf a) fo fc (fitting a fa .2)
+
+  method-back : methodIn (bytesOf (fixed o c a at)) ≡ methodOf a
+  unfolding bytesOf
+  method-back = method-read 2 o c (samplesOf a) (methodOf a) at (priceOf a) fo fc (method-fits a)
+
+  fixing-time-back : fixingTimeIn (bytesOf (fixed o c a at)) ≡ at
+  unfolding bytesOf
+  fixing-time-back = time-read 2 o c (samplesOf a) (methodOf a) at (priceOf a) fo fc ft
+
+  fixed-price-back : priceIn (bytesOf (fixed o c a at)) ≡ priceOf a
+  unfolding bytesOf
+  fixed-price-back = price-read 2 o c (samplesOf a) (methodOf a) at (priceOf a) fo fc (fitting a fa .3)
+
+  fixed-opening : openingIn (bytesOf (fixed o c a at)) ≡ o
+  unfolding bytesOf
+  fixed-opening = opening-back 2 o c (samplesOf a) (methodOf a) at (priceOf a) fo fc
+
+  fixed-candidates : candidatesOf (partsIn (bytesOf (fixed o c a at))) ≡ c
+  unfolding bytesOf
+  fixed-candidates = candidates-read 2 o c (samplesOf a) (methodOf a) at (priceOf a) fo fc
+
+  fixed-tag : tagIn (bytesOf (fixed o c a at)) ≡ 2
+  unfolding bytesOf
+  fixed-tag = tag-read 2 o c (samplesOf a) (methodOf a) at (priceOf a) fo fc refl
+
+  fixed-read : seriesIn (bytesOf (fixed o c a at)) ≡ fixed o c a at
+  unfolding seriesIn
+  fixed-read =
+      rw (fixed-tag, fixed-opening, fixed-candidates, fixing-time-back, method-back, samples-back, fixed-price-back)
+      (ap (λ x. fixed o c x at) (outcome-back a (fitting a fa .0) (fitting a fa .1)))
+
+  fixed-body : goodTerms (o .terms) ≡ true → goodState (o .terms) (partsOf c) ≡ true → every (bodyTests (bytesOf (fixed o c a at))) ≡ true
+  unfolding bytesOf
+  fixed-body g s = body-passes 2 o c (samplesOf a) (methodOf a) at (priceOf a) fo fc g s
+
+  fixed-acceptable : goodTerms (o .terms) ≡ true → goodState (o .terms) (partsOf c) ≡ true → final (decided o c at) ≡ true → a ≡ decided o c at
+      → acceptable (bytesOf (fixed o c a at)) ≡ true
+  unfolding acceptable
+  fixed-acceptable g s f e =
+      let settles : final a ≡ true = ap final e ∙ f in
+      rw (
+        fixed-tag,
+        fixed-body g s,
+        fixed-opening,
+        fixed-candidates,
+        fixing-time-back,
+        method-back,
+        samples-back,
+        fixed-price-back,
+        ← e,
+        settles,
+        eq-eqb (samplesOf a) (samplesOf a) refl,
+        eq-eqb (methodOf a) (methodOf a) refl,
+        eq-eqb (priceOf a) (priceOf a) refl,
+      )
+
+-- reading what was written gives the series back, for every series that fits its fields
+pub written-read : (s : Series) → seriesFits s ≡ true → seriesIn (bytesOf s) ≡ s
+unfolding seriesIn bytesOf unsignedAt zeros
+written-read empty h = refl
+written-read (live o c) h =
+    let tests : List Bool = openingFits o ∷ candidatesFit c ∷ [] in
+    live-read o c (every-at tests 0 h) (every-at tests 1 h)
+written-read (fixed o c a at) h =
+    let tests : List Bool = openingFits o ∷ candidatesFit c ∷ outcomeFits a ∷ fits at ∷ [] in
+    fixed-read o c a at (every-at tests 0 h) (every-at tests 1 h) (every-at tests 2 h) (every-at tests 3 h)
+
+-- ---- acceptable records
+
+-- a fixed series' outcome is the decision at its fixing time
+abbrev pub honest : Series → Type 0
+honest empty = Unit
+honest (live o c) = Unit
+honest (fixed o c a at) = a ≡ decided o c at
+
+live-acceptable : (o : Opening) (c : Candidates) → openingFits o ≡ true → candidatesFit c ≡ true → goodTerms (o .terms) ≡ true → goodState (o .terms) (partsOf c) ≡ true
+    → acceptable (bytesOf (live o c)) ≡ true
+unfolding acceptable bytesOf
+live-acceptable o c fo fc g s =
+    rw (tag-read 1 o c 0 0 (pos 0) 0 fo fc refl, body-passes 1 o c 0 0 (pos 0) 0 fo fc g s)
+    (unfold unsignedAt fields zeros bytes partsOf word in refl)
+
+written-acceptable : (s : Series) → seriesFits s ≡ true → sound s ≡ true → honest s → acceptable (bytesOf s) ≡ true
+unfolding acceptable bytesOf unsignedAt zeros
+written-acceptable empty h k e = refl
+written-acceptable (live o c) h k e =
+    let tests : List Bool = openingFits o ∷ candidatesFit c ∷ [] in
+    let sounds : List Bool = goodTerms (o .terms) ∷ goodState (o .terms) (partsOf c) ∷ [] in
+    live-acceptable o c (every-at tests 0 h) (every-at tests 1 h) (every-at sounds 0 k) (every-at sounds 1 k)
+written-acceptable (fixed o c a at) h k e =
+    let tests : List Bool = openingFits o ∷ candidatesFit c ∷ outcomeFits a ∷ fits at ∷ [] in
+    let sounds : List Bool = goodTerms (o .terms) ∷ goodState (o .terms) (partsOf c) ∷ final (decided o c at) ∷ [] in
+    fixed-acceptable o c a at (every-at tests 0 h) (every-at tests 1 h) (every-at tests 2 h) (every-at tests 3 h)
+    (every-at sounds 0 k) (every-at sounds 1 k) (every-at sounds 2 k) e
+
+pub written-stored : (s : Series) → seriesFits s ≡ true → sound s ≡ true → honest s → stored (bytesOf s) ≡ ok s
+unfolding stored
+written-stored s h k e = rw (written-acceptable s h k e, written-read s h)
+
+-- ---- the ledger's record
+
+ledger-honest : (j : Log Command) → honest (ledger j)
+unfolding ledger
+ledger-honest j = go (opening j) (freeze j)
+  where
+    go : (o : Option Opening) (z : Option Freeze) → honest (maybe empty (λ q. since q (candidates q (takenPrints j)) z) o)
+    go none z = tt
+    go (some o) none = tt
+    go (some o) (some z) = refl
+
+pub ledger-stored : (j : Log Command) → all commandFits j ≡ true → stored (bytesOf (ledger j)) ≡ ok (ledger j)
+ledger-stored j h = written-stored (ledger j) (ledger-fits j h) (ledger-sound j h) (ledger-honest j)

@@ -1,0 +1,72 @@
+-- 01, "Decision (`SettlementState::decide`)".
+use Prim.Native.Nat.{ℕ, _/_, _%_, _^_}
+use mathlib.Core.Bool.{Bool, not}
+use mathlib.Core.List.{List, [], _∷_}
+use lib.IntN.{ℤ, pos, _+ℤ_}
+use lib.Signed.{ltZ}
+use lib.Dec.{ltb, leb}
+use Rattle.rules.specs.Log.{if_then_else_, size, total, Σ<}
+use Rattle.rules.specs.Bytes.{fits}
+use Rattle.rules.specs.Answers.{Result, ok, refused, Method, Answer, Wait, Settle, Refused}
+use Rattle.rules.specs.Terms.{Terms, slots}
+use Rattle.rules.specs.Mean.{mean}
+use Rattle.rules.specs.Taking.{Candidates}
+
+-- how many bits of a u32 are set
+unfoldable pub ones : ℕ → ℕ
+ones bits = Σ< 32 (λ i. bits / 2 ^ i % 2)
+
+abbrev pub maxZ : ℤ → ℤ → ℤ
+maxZ a b = if ltZ a b then b else a
+
+-- a Settle at the price, or the price's refusal
+abbrev pub settleAt : Method → ℕ → Result ℕ → Answer
+settleAt m samples (ok price) = Settle m price samples
+settleAt m samples (refused r) = Refused r
+
+-- the answer of the first case whose test passes, or else the last one
+infix 80 _⇒_
+pub data Case : Type 0 where
+  _⇒_ : Bool → Answer → Case
+
+abbrev pub firstOf : List Case → Answer → Answer
+firstOf [] otherwise = otherwise
+firstOf ((test ⇒ a) ∷ cases) otherwise = if test then a else firstOf cases otherwise
+
+module _ (t : Terms) (E : ℤ) (c : Candidates) (now : ℤ) where
+  -- "Before "from" the answer is Wait until then; a sum that does not fit is 0."
+  abbrev pub from : ℤ → Answer → Answer
+  from T a = if not (fits T) then Refused 0 else if ltZ now T then Wait T else a
+
+  abbrev pub settle : Method → ℕ → ℕ → Answer
+  settle m sum samples = settleAt m samples (mean sum samples (t .exponent))
+
+  -- "H = E + hard"; "n slots filled, m links"
+  abbrev pub H : ℤ
+  H = E +ℤ pos (t .hard)
+
+  abbrev pub D : ℤ
+  D = pos (t .delay)
+
+  abbrev pub n : ℕ
+  n = ones (c .bits)
+
+  abbrev pub m : ℕ
+  m = size (c .times)
+
+  -- "now < E: Wait E. Then H = E + hard must fit, else 0. In order": 1 (two lines), 2, 3 (two lines), 4, 5
+  abbrev pub steps : List Case
+  steps =
+      ltZ now E ⇒ Wait E
+      ∷ not (fits H) ⇒ Refused 0
+      ∷ leb (slots t) n ⇒ settle Method.Window (c .sum) n
+      ∷ leb (t .minimum) n ⇒ from (maxZ E (c .windowChanged) +ℤ D) (settle Method.Window (c .sum) n)
+      ∷ leb (t .k) m ⇒ from (E +ℤ D) (settle Method.NextPrint (total (c .prices)) m)
+      ∷ ltZ now H ⇒ Wait H
+      ∷ ltb 0 m ⇒ from (maxZ H (c .linkChanged) +ℤ D) (settle Method.PartialNextPrint (total (c .prices)) m)
+      ∷ ltb 0 n ⇒ from (maxZ H (c .windowChanged) +ℤ D) (settle Method.PartialWindow (c .sum) n)
+      ∷ ltb 0 (c .fallbackPrice) ⇒ from (maxZ H (c .fallbackChanged) +ℤ D) (settle Method.Fallback (c .fallbackPrice) 1) ∷ []
+
+  -- "6. Void from H + D."
+  unfoldable pub decide : Answer
+  decide = firstOf steps (from (H +ℤ D) Answer.Void)

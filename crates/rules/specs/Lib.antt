@@ -1,0 +1,14 @@
+pub mod Log
+pub mod Bytes
+pub mod Answers
+pub mod Terms
+pub mod Prints
+pub mod Mean
+pub mod Taking
+pub mod Decision
+pub mod State
+pub mod Series
+pub mod Record
+pub mod Entries
+pub mod Book
+pub mod Ledger

@@ -1,0 +1,207 @@
+-- 01, "Record (200 bytes; book = 64 of them)".
+use Prim.Native.Nat.{ℕ, zero, _+_, _*_, _/_, _%_, _^_}
+use mathlib.Core.Bool.{Bool, true, false, _&&_}
+use mathlib.Core.List.{List, [], _∷_, _++_}
+use lib.IntN.{ℤ, pos}
+use lib.Dec.{ltb, leb, eqb}
+use Rattle.rules.specs.Log.{if_then_else_, size, all, every}
+use Rattle.rules.specs.Bytes.{Bytes, zeros, allZero, concat, unsignedAt, signedAt, bytes, signedBytes, fitsUnsigned, fitsSigned, fits}
+use Rattle.rules.specs.Answers.{Result, ok, refused, Method, number, method, Answer, Opened, Used, Wait, Settle, Refused, final}
+use Rattle.rules.specs.Terms.{goodTerms}
+use Rattle.rules.specs.Taking.{Candidates}
+use Rattle.rules.specs.State.{Parts, candidatesOf, partsOf, goodState}
+use Rattle.rules.specs.Series.{Opening, Series, empty, live, fixed, decided}
+
+abbrev pub recordSize : ℕ
+recordSize = 200
+
+abbrev pub seriesCount : ℕ
+seriesCount = 64
+
+abbrev pub bookSize : ℕ
+bookSize = 12_800
+
+-- ---- writing
+
+-- an outcome's method, samples and price ("Void: method 5, samples and price zero")
+abbrev pub methodOf : Answer → ℕ
+methodOf (Settle m p n) = number m
+methodOf Answer.Void = number Method.Void
+methodOf Opened = 0
+methodOf (Used s l f) = 0
+methodOf (Wait t) = 0
+methodOf (Refused r) = 0
+
+abbrev pub samplesOf : Answer → ℕ
+samplesOf (Settle m p n) = n
+samplesOf Answer.Void = 0
+samplesOf Opened = 0
+samplesOf (Used s l f) = 0
+samplesOf (Wait t) = 0
+samplesOf (Refused r) = 0
+
+abbrev pub priceOf : Answer → ℕ
+priceOf (Settle m p n) = p
+priceOf Answer.Void = 0
+priceOf Opened = 0
+priceOf (Used s l f) = 0
+priceOf (Wait t) = 0
+priceOf (Refused r) = 0
+
+abbrev pub eight : List ℕ → List Bytes
+eight [] = []
+eight (v ∷ vs) = bytes 8 v ∷ eight vs
+
+abbrev pub eightSigned : List ℤ → List Bytes
+eightSigned [] = []
+eightSigned (z ∷ zs) = signedBytes 8 z ∷ eightSigned zs
+
+-- the fields in the order of their offsets
+unfoldable pub fields : ℕ → Opening → Parts → ℕ → ℕ → ℤ → ℕ → List Bytes
+fields tag o s samples number fixingTime price =
+    let t = o .terms in
+    (bytes 1 tag ∷ bytes 1 (t .k) ∷ signedBytes 1 (t .exponent) ∷ bytes 1 (s .links)
+    ∷ bytes 2 (t .tolerance) ∷ bytes 2 (t .minimum) ∷ bytes 2 (o .bps) ∷ bytes 2 samples
+    ∷ bytes 4 (t .window) ∷ bytes 4 (t .slot) ∷ bytes 4 (t .delay) ∷ bytes 4 (t .lookback) ∷ bytes 4 (t .hard) ∷ bytes 4 (s .bits)
+    ∷ bytes 1 number ∷ zeros 3
+    ∷ signedBytes 8 (o .expiry) ∷ bytes 8 (s .sum % 2 ^ 64) ∷ bytes 8 (s .sum / 2 ^ 64) ∷ [])
+    ++ (eightSigned (s .times) ++ (eight (s .prices)
+    ++ (signedBytes 8 (s .fallbackTime) ∷ bytes 8 (s .fallbackPrice)
+    ∷ signedBytes 8 (s .windowChanged) ∷ signedBytes 8 (s .linkChanged) ∷ signedBytes 8 (s .fallbackChanged)
+    ∷ signedBytes 8 fixingTime ∷ bytes 8 price ∷ [])))
+
+unfoldable pub bytesOf : Series → Bytes
+bytesOf empty = zeros recordSize
+bytesOf (live o c) = concat (fields 1 o (partsOf c) 0 0 (pos 0) 0)
+bytesOf (fixed o c a at) = concat (fields 2 o (partsOf c) (samplesOf a) (methodOf a) at (priceOf a))
+
+-- ---- reading, at 01's offsets
+
+abbrev pub fiveFrom : {A : Type 0} → (ℕ → A) → ℕ → List A
+fiveFrom f i = f i ∷ f (i + 8) ∷ f (i + 16) ∷ f (i + 24) ∷ f (i + 32) ∷ []
+
+-- an outcome from its method, price and samples
+abbrev pub outcome : Result Method → ℕ → ℕ → Answer
+outcome (ok m) price samples = if eqb (number m) (number Method.Void) then Answer.Void else Settle m price samples
+outcome (refused r) price samples = Refused r
+
+module _ (bs : Bytes) where
+  unfoldable pub openingIn : Opening
+  openingIn =
+      record {
+        terms =
+            record {
+              window = unsignedAt bs 12 4;
+              slot = unsignedAt bs 16 4;
+              tolerance = unsignedAt bs 4 2;
+              minimum = unsignedAt bs 6 2;
+              k = unsignedAt bs 1 1;
+              delay = unsignedAt bs 20 4;
+              lookback = unsignedAt bs 24 4;
+              hard = unsignedAt bs 28 4;
+              exponent = signedAt bs 2 1;
+            };
+        bps = unsignedAt bs 8 2;
+        expiry = signedAt bs 40 8;
+      }
+
+  unfoldable pub partsIn : Parts
+  partsIn =
+      record {
+        bits = unsignedAt bs 32 4;
+        sum = unsignedAt bs 56 8 * 2 ^ 64 + unsignedAt bs 48 8;
+        links = unsignedAt bs 3 1;
+        times = fiveFrom (λ i. signedAt bs i 8) 64;
+        prices = fiveFrom (λ i. unsignedAt bs i 8) 104;
+        fallbackTime = signedAt bs 144 8;
+        fallbackPrice = unsignedAt bs 152 8;
+        windowChanged = signedAt bs 160 8;
+        linkChanged = signedAt bs 168 8;
+        fallbackChanged = signedAt bs 176 8;
+      }
+
+  abbrev pub tagIn : ℕ
+  tagIn = unsignedAt bs 0 1
+
+  abbrev pub samplesIn : ℕ
+  samplesIn = unsignedAt bs 10 2
+
+  abbrev pub methodIn : ℕ
+  methodIn = unsignedAt bs 36 1
+
+  abbrev pub fixingTimeIn : ℤ
+  fixingTimeIn = signedAt bs 184 8
+
+  abbrev pub priceIn : ℕ
+  priceIn = unsignedAt bs 192 8
+
+  -- "0 tag (0 empty, 1 open, 2 fixed)"
+  unfoldable pub seriesIn : Series
+  seriesIn =
+      if eqb tagIn 0 then empty else
+      if eqb tagIn 1 then live openingIn (candidatesOf partsIn) else
+      fixed openingIn (candidatesOf partsIn) (outcome (method methodIn) priceIn samplesIn) fixingTimeIn
+
+  -- ---- the acceptable records
+
+  -- "Otherwise terms accepted and state accepted by `restore`"; "37–39 zero"
+  abbrev pub bodyTests : List Bool
+  bodyTests = goodTerms (openingIn .terms) ∷ goodState (openingIn .terms) partsIn ∷ eqb (unsignedAt bs 37 3) 0 ∷ []
+
+  -- "Tag 1: samples, method, fixing time and price zero."
+  abbrev pub openTests : List Bool
+  openTests = eqb samplesIn 0 ∷ eqb methodIn 0 ∷ eqb (unsignedAt bs 184 8) 0 ∷ eqb priceIn 0 ∷ []
+
+  -- "Tag 2: the decision at the fixing time is final and is what stands there (Void: method 5, samples and price zero)."
+  abbrev pub fixedTests : List Bool
+  fixedTests =
+      let d = decided openingIn (candidatesOf partsIn) fixingTimeIn in
+      final d ∷ eqb samplesIn (samplesOf d) ∷ eqb methodIn (methodOf d) ∷ eqb priceIn (priceOf d) ∷ []
+
+  -- "Tag 0: all zero. Above 2: not acceptable."
+  unfoldable pub acceptable : Bool
+  acceptable =
+      if eqb tagIn 0 then allZero bs else
+      if eqb tagIn 1 then every bodyTests && every openTests else
+      if eqb tagIn 2 then every bodyTests && every fixedTests else
+      false
+
+-- the series of a record: "11 the command's own record not acceptable"
+unfoldable pub stored : Bytes → Result Series
+stored bs = if acceptable bs then ok (seriesIn bs) else refused 11
+
+-- ---- the series that fit their fields
+
+abbrev pub openingFields : Opening → List Bool
+openingFields o =
+    let t = o .terms in
+    fitsUnsigned 4 (t .window) ∷ fitsUnsigned 4 (t .slot) ∷ fitsUnsigned 2 (t .tolerance) ∷ fitsUnsigned 2 (t .minimum) ∷ fitsUnsigned 1 (t .k)
+    ∷ fitsUnsigned 4 (t .delay) ∷ fitsUnsigned 4 (t .lookback) ∷ fitsUnsigned 4 (t .hard) ∷ fitsSigned 1 (t .exponent)
+    ∷ fitsUnsigned 2 (o .bps) ∷ fits (o .expiry) ∷ []
+
+abbrev pub candidatesFields : Candidates → List Bool
+candidatesFields c =
+    fitsUnsigned 4 (c .bits) ∷ fitsUnsigned 16 (c .sum)
+    ∷ leb (size (c .times)) 5 ∷ eqb (size (c .prices)) (size (c .times)) ∷ all fits (c .times) ∷ all (fitsUnsigned 8) (c .prices)
+    ∷ fits (c .fallbackTime) ∷ fitsUnsigned 8 (c .fallbackPrice)
+    ∷ fits (c .windowChanged) ∷ fits (c .linkChanged) ∷ fits (c .fallbackChanged) ∷ []
+
+unfoldable pub openingFits : Opening → Bool
+openingFits o = every (openingFields o)
+
+unfoldable pub candidatesFit : Candidates → Bool
+candidatesFit c = every (candidatesFields c)
+
+-- Settle by one of the first five methods, or Void
+abbrev pub outcomeFits : Answer → Bool
+outcomeFits (Settle m p n) = ltb (number m) (number Method.Void) && (fitsUnsigned 8 p && fitsUnsigned 2 n)
+outcomeFits Answer.Void = true
+outcomeFits Opened = false
+outcomeFits (Used s l f) = false
+outcomeFits (Wait t) = false
+outcomeFits (Refused r) = false
+
+abbrev pub seriesFits : Series → Bool
+seriesFits empty = true
+seriesFits (live o c) = every (openingFits o ∷ candidatesFit c ∷ [])
+seriesFits (fixed o c a at) = every (openingFits o ∷ candidatesFit c ∷ outcomeFits a ∷ fits at ∷ [])
