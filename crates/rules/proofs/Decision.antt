@@ -29,15 +29,15 @@ module _ (P : Answer → Type 0) where
   first-of ((test ⇒ a) ∷ cases) otherwise f p = either test (f .0) (first-of cases otherwise (f .1) p)
 
   module _ (t : Terms) (E : ℤ) (c : Candidates) (now : ℤ) where
-    from-each : (T : ℤ) (a : Answer) → ((u : ℤ) → P (Wait u)) → P (Refused 0) → P a → P (from t E c now T a)
+    from-each : (T : ℤ) (a : Answer) → ((u : ℤ) → P (Wait u)) → P (Refused 0) → P a → P (from now T a)
     from-each T a w r p = either (not (fits T)) (λ _. r) (either (ltZ now T) (λ _. w T) p)
 
     pub decide-each : ((u : ℤ) → P (Wait u)) → P (Refused 0) → P Answer.Void
-        → P (settle t E c now Method.Window (c .sum) (n t E c now))
-        → P (settle t E c now Method.NextPrint (total (c .prices)) (m t E c now))
-        → P (settle t E c now Method.PartialNextPrint (total (c .prices)) (m t E c now))
-        → P (settle t E c now Method.PartialWindow (c .sum) (n t E c now))
-        → (ltb 0 (c .fallbackPrice) ≡ true → P (settle t E c now Method.Fallback (c .fallbackPrice) 1))
+        → P (settle (t .exponent) Method.Window (c .sum) (n t E c now))
+        → P (settle (t .exponent) Method.NextPrint (total (c .prices)) (m t E c now))
+        → P (settle (t .exponent) Method.PartialNextPrint (total (c .prices)) (m t E c now))
+        → P (settle (t .exponent) Method.PartialWindow (c .sum) (n t E c now))
+        → (ltb 0 (c .fallbackPrice) ≡ true → P (settle (t .exponent) Method.Fallback (c .fallbackPrice) 1))
         → P (decide t E c now)
     unfolding decide
     decide-each w r v window next partialNext partialWindow fallback =
@@ -90,7 +90,7 @@ decide-by-price t E c now =
     (at Method.Window (c .sum) _ refl) (at Method.NextPrint (total (c .prices)) _ refl) (at Method.PartialNextPrint (total (c .prices)) _ refl)
     (at Method.PartialWindow (c .sum) _ refl) (λ _. at Method.Fallback (c .fallbackPrice) 1 refl)
   where
-    at : (k : Method) (s n : ℕ) → ltb (number k) (number Method.Void) ≡ true → byPrice (settle t E c now k s n) ≡ true
+    at : (k : Method) (s n : ℕ) → ltb (number k) (number Method.Void) ≡ true → byPrice (settle (t .exponent) k s n) ≡ true
     at k s n h = go (mean s n (t .exponent))
       where
         go : (r : Result ℕ) → byPrice (settleAt k n r) ≡ true

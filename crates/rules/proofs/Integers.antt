@@ -1,156 +1,159 @@
--- ℤ by differences of naturals, so that a linear fact about tests on ℤ is one `omega arith` over ℕ.
--- Recipe: match `diff z` for each variable z, then `simp tests` on the goal and the hypotheses, then `omega (arith, leb-true, ..)`.
-use Prim.Native.Nat.{ℕ, zero, suc, _+_, _*_, _-_, _<_, _≤_}
-use mathlib.Core.Path.{_≡_, refl, sym, ap, _∙_, subst}
-use mathlib.Core.Bool.{Bool, true, false, not, _&&_, _||_, cond}
+-- ℤ for omega, which reads natural numbers alone: z is up z − dn z, and one of the two is 0. Each test, sum and difference is then a fact about naturals.
+use Prim.Native.Nat.{ℕ, zero, suc, _+_, _-_, _≤_, _<_, min}
+use mathlib.Core.Path.{_≡_, refl, sym, ap, _∙_}
+use mathlib.Core.Bool.{Bool, true, false, not, _&&_, cond}
 use native.Mathlib.Omega.{arith}
-use lib.IntN.{ℤ, pos, negsuc, negℤ, subℕ, _+ℤ_, _-ℤ_}
+use lib.IntN.{ℤ, pos, negsuc, negℤ, natAbs, subℕ, _+ℤ_, _-ℤ_}
 use lib.Signed.{ltZ, leZ}
-use lib.Dec.{ltb, leb, eqb}
+use lib.Dec.{ltb, leb}
 use borrow.Author.Tests.{ltb-true, ltb-false, leb-true, leb-false, lt-ltb, le-ltb, le-leb, lt-leb}
 
 -- omega, reading and proving the tests on ℕ
 pub ruleset tests = (arith, ltb-true, ltb-false, leb-true, leb-false, lt-ltb, le-ltb, le-leb, lt-leb)
 
--- two tests that say the same
-leb-same : (a b c d : ℕ) → (a ≤ b → c ≤ d) → (c ≤ d → a ≤ b) → leb a b ≡ leb c d
-leb-same a b c d f g = go (leb a b) (leb c d) refl refl
-  where
-    go : (x y : Bool) → leb a b ≡ x → leb c d ≡ y → x ≡ y
-    go true true p q = refl
-    go true false p q = let h = f (leb-true a b p) in let z : _≡_ {A = ℕ} 0 1 = omega tests in cc
-    go false true p q = let h = g (leb-true c d q) in let z : _≡_ {A = ℕ} 0 1 = omega tests in cc
-    go false false p q = refl
+abbrev pub up : ℤ → ℕ
+up (pos n) = n
+up (negsuc n) = 0
 
-pub le-sub : (a b c d : ℕ) → leZ (subℕ a b) (subℕ c d) ≡ leb (a + d) (c + b)
-le-sub a b c d = go (ltb a b) (ltb c d) refl refl
-  where
-    go : (x y : Bool) → ltb a b ≡ x → ltb c d ≡ y
-        → leZ (cond x (negsuc (b - suc a)) (pos (a - b))) (cond y (negsuc (d - suc c)) (pos (c - d))) ≡ leb (a + d) (c + b)
-    go true true p q = leb-same (d - suc c) (b - suc a) (a + d) (c + b) (omega tests) (omega tests)
-    go true false p q = sym (omega tests)
-    go false true p q = sym (omega tests)
-    go false false p q = leb-same (a - b) (c - d) (a + d) (c + b) (omega tests) (omega tests)
+abbrev pub dn : ℤ → ℕ
+dn (pos n) = 0
+dn (negsuc n) = suc n
 
-pub lt-sub : (a b c d : ℕ) → ltZ (subℕ a b) (subℕ c d) ≡ ltb (a + d) (c + b)
-lt-sub a b c d = go (ltb a b) (ltb c d) refl refl
-  where
-    go : (x y : Bool) → ltb a b ≡ x → ltb c d ≡ y
-        → ltZ (cond x (negsuc (b - suc a)) (pos (a - b))) (cond y (negsuc (d - suc c)) (pos (c - d))) ≡ ltb (a + d) (c + b)
-    go true true p q = leb-same (suc (d - suc c)) (b - suc a) (suc (a + d)) (c + b) (omega tests) (omega tests)
-    go true false p q = sym (omega tests)
-    go false true p q = sym (omega tests)
-    go false false p q = leb-same (suc (a - b)) (c - d) (suc (a + d)) (c + b) (omega tests) (omega tests)
+pub apart : (z : ℤ) → min (up z) (dn z) ≡ 0
+apart (pos n) = omega arith
+apart (negsuc n) = omega arith
 
-pub sub-eq : (a b c d : ℕ) → a + d ≡ c + b → subℕ a b ≡ subℕ c d
-sub-eq a b c d e = go (ltb a b) (ltb c d) refl refl
-  where
-    go : (x y : Bool) → ltb a b ≡ x → ltb c d ≡ y
-        → _≡_ {A = ℤ} (cond x (negsuc (b - suc a)) (pos (a - b))) (cond y (negsuc (d - suc c)) (pos (c - d)))
-    go true true p q = ap negsuc (omega tests)
-    go true false p q = let z : _≡_ {A = ℕ} 0 1 = omega tests in cc
-    go false true p q = let z : _≡_ {A = ℕ} 0 1 = omega tests in cc
-    go false false p q = ap pos (omega tests)
+monus-at : (a b : ℕ) (t : Bool) → ltb a b ≡ t → up (cond t (negsuc (b - suc a)) (pos (a - b))) + b ≡ dn (cond t (negsuc (b - suc a)) (pos (a - b))) + a
+monus-at a b true e = omega (arith, ltb-true a b e)
+monus-at a b false e = omega (arith, ltb-false a b e)
 
-pub pos-sub : (n : ℕ) → pos n ≡ subℕ n 0
-pos-sub n = sym (rw (le-ltb n 0 (omega arith)) (ap pos (omega arith)))
+monus-law : (a b : ℕ) → up (subℕ a b) + b ≡ dn (subℕ a b) + a
+monus-law a b = monus-at a b (ltb a b) refl
 
-pub negsuc-sub : (n : ℕ) → negsuc n ≡ subℕ 0 (suc n)
-negsuc-sub n = sym (rw (lt-ltb 0 (suc n) (omega arith)) (ap negsuc (omega arith)))
+pub sum-law : (m k : ℤ) → up (m +ℤ k) + (dn m + dn k) ≡ dn (m +ℤ k) + (up m + up k)
+sum-law (pos a) (pos b) = omega arith
+sum-law (pos a) (negsuc b) = omega (arith, monus-law a (suc b))
+sum-law (negsuc a) (pos b) = omega (arith, monus-law b (suc a))
+sum-law (negsuc a) (negsuc b) = omega arith
 
--- every integer is such a difference
-pub data Diff : ℤ → Type 0 where
-  minus : (a b : ℕ) → Diff (subℕ a b)
+neg-up : (z : ℤ) → up (negℤ z) ≡ dn z
+neg-up (pos zero) = refl
+neg-up (pos (suc n)) = refl
+neg-up (negsuc n) = refl
 
-pub diff : (z : ℤ) → Diff z
-diff (pos n) = rw (pos-sub n) (minus n 0)
-diff (negsuc n) = rw (negsuc-sub n) (minus 0 (suc n))
+neg-dn : (z : ℤ) → dn (negℤ z) ≡ up z
+neg-dn (pos zero) = refl
+neg-dn (pos (suc n)) = refl
+neg-dn (negsuc n) = refl
 
-pub add-sub : (a b c d : ℕ) → subℕ a b +ℤ subℕ c d ≡ subℕ (a + c) (b + d)
-add-sub a b c d = go (ltb a b) (ltb c d) refl refl
-  where
-    go : (x y : Bool) → ltb a b ≡ x → ltb c d ≡ y
-        → (cond x (negsuc (b - suc a)) (pos (a - b))) +ℤ (cond y (negsuc (d - suc c)) (pos (c - d))) ≡ subℕ (a + c) (b + d)
-    go true true p q = negsuc-sub (suc (b - suc a + (d - suc c))) ∙ sub-eq 0 (suc (suc (b - suc a + (d - suc c)))) (a + c) (b + d) (omega tests)
-    go true false p q = sub-eq (c - d) (suc (b - suc a)) (a + c) (b + d) (omega tests)
-    go false true p q = sub-eq (a - b) (suc (d - suc c)) (a + c) (b + d) (omega tests)
-    go false false p q = pos-sub (a - b + (c - d)) ∙ sub-eq (a - b + (c - d)) 0 (a + c) (b + d) (omega tests)
+pub difference-law : (m k : ℤ) → up (m -ℤ k) + (dn m + up k) ≡ dn (m -ℤ k) + (up m + dn k)
+difference-law m k = omega (arith, sum-law m (negℤ k), neg-up k, neg-dn k)
 
-pub neg-pos : (n : ℕ) → negℤ (pos n) ≡ subℕ 0 n
-neg-pos zero = refl
-neg-pos (suc n) = negsuc-sub n
+no-way : true ≡ false → ⊥
+no-way e = let z : _≡_ {A = ℕ} 0 1 = cc in omega arith
 
-pub neg-sub : (a b : ℕ) → negℤ (subℕ a b) ≡ subℕ b a
-neg-sub a b = go (ltb a b) refl
-  where
-    go : (x : Bool) → ltb a b ≡ x → negℤ (cond x (negsuc (b - suc a)) (pos (a - b))) ≡ subℕ b a
-    go true p = pos-sub (suc (b - suc a)) ∙ sub-eq (suc (b - suc a)) 0 b a (omega tests)
-    go false p = neg-pos (a - b) ∙ sub-eq 0 (a - b) b a (omega tests)
+-- a test, and what it says
+pub lt-yes : (a b : ℤ) → ltZ a b ≡ true → up a + dn b < up b + dn a
+lt-yes (pos a) (pos b) e = omega (arith, ltb-true a b e)
+lt-yes (pos a) (negsuc b) e = absurd (no-way (sym e))
+lt-yes (negsuc a) (pos b) e = omega arith
+lt-yes (negsuc a) (negsuc b) e = omega (arith, ltb-true b a e)
 
--- how the tests and sums of differences are tests and sums of naturals
-pub ruleset differences = (pos-sub, negsuc-sub, neg-sub, add-sub, le-sub, lt-sub)
+pub lt-no : (a b : ℤ) → ltZ a b ≡ false → up b + dn a ≤ up a + dn b
+lt-no (pos a) (pos b) e = omega (arith, ltb-false a b e)
+lt-no (pos a) (negsuc b) e = omega arith
+lt-no (negsuc a) (pos b) e = absurd (no-way e)
+lt-no (negsuc a) (negsuc b) e = omega (arith, ltb-false b a e)
+
+pub le-yes : (a b : ℤ) → leZ a b ≡ true → up a + dn b ≤ up b + dn a
+le-yes (pos a) (pos b) e = omega (arith, leb-true a b e)
+le-yes (pos a) (negsuc b) e = absurd (no-way (sym e))
+le-yes (negsuc a) (pos b) e = omega arith
+le-yes (negsuc a) (negsuc b) e = omega (arith, leb-true b a e)
+
+pub le-no : (a b : ℤ) → leZ a b ≡ false → up b + dn a < up a + dn b
+le-no (pos a) (pos b) e = omega (arith, leb-false a b e)
+le-no (pos a) (negsuc b) e = omega arith
+le-no (negsuc a) (pos b) e = absurd (no-way e)
+le-no (negsuc a) (negsuc b) e = omega (arith, leb-false b a e)
+
+pub yes-lt : (a b : ℤ) → up a + dn b < up b + dn a → ltZ a b ≡ true
+yes-lt (pos a) (pos b) h = lt-ltb a b (omega arith)
+yes-lt (pos a) (negsuc b) h = absurd (omega arith)
+yes-lt (negsuc a) (pos b) h = refl
+yes-lt (negsuc a) (negsuc b) h = lt-ltb b a (omega arith)
+
+pub no-lt : (a b : ℤ) → up b + dn a ≤ up a + dn b → ltZ a b ≡ false
+no-lt (pos a) (pos b) h = le-ltb a b (omega arith)
+no-lt (pos a) (negsuc b) h = refl
+no-lt (negsuc a) (pos b) h = absurd (omega arith)
+no-lt (negsuc a) (negsuc b) h = le-ltb b a (omega arith)
+
+pub yes-le : (a b : ℤ) → up a + dn b ≤ up b + dn a → leZ a b ≡ true
+yes-le (pos a) (pos b) h = le-leb a b (omega arith)
+yes-le (pos a) (negsuc b) h = absurd (omega arith)
+yes-le (negsuc a) (pos b) h = refl
+yes-le (negsuc a) (negsuc b) h = le-leb b a (omega arith)
+
+pub no-le : (a b : ℤ) → up b + dn a < up a + dn b → leZ a b ≡ false
+no-le (pos a) (pos b) h = lt-leb a b (omega arith)
+no-le (pos a) (negsuc b) h = refl
+no-le (negsuc a) (pos b) h = absurd (omega arith)
+no-le (negsuc a) (negsuc b) h = lt-leb b a (omega arith)
+
+pub same : (a b : ℤ) → up a + dn b ≡ up b + dn a → a ≡ b
+same (pos a) (pos b) h = ap pos (omega arith)
+same (pos a) (negsuc b) h = absurd (omega arith)
+same (negsuc a) (pos b) h = absurd (omega arith)
+same (negsuc a) (negsuc b) h = ap negsuc (omega arith)
+
+-- the magnitude
+pub abs-is : (z : ℤ) → natAbs z ≡ up z + dn z
+abs-is (pos n) = omega arith
+abs-is (negsuc n) = omega arith
 
 -- ---- the order's laws, in the form of tests
 
 pub lt-le-trans : (a b c : ℤ) → ltZ a b ≡ true → leZ b c ≡ true → ltZ a c ≡ true
-lt-le-trans a b c = go (diff a) (diff b) (diff c)
-  where
-    go : {a b c : ℤ} → Diff a → Diff b → Diff c → ltZ a b ≡ true → leZ b c ≡ true → ltZ a c ≡ true
-    go (minus a a′) (minus b b′) (minus c c′) h i =
-        let h = rw lt-sub at h in let i = rw le-sub at i in rw lt-sub (omega tests)
+lt-le-trans a b c h k = yes-lt a c (omega (arith, lt-yes a b h, le-yes b c k))
 
 pub le-lt-trans : (a b c : ℤ) → leZ a b ≡ true → ltZ b c ≡ true → ltZ a c ≡ true
-le-lt-trans a b c = go (diff a) (diff b) (diff c)
-  where
-    go : {a b c : ℤ} → Diff a → Diff b → Diff c → leZ a b ≡ true → ltZ b c ≡ true → ltZ a c ≡ true
-    go (minus a a′) (minus b b′) (minus c c′) h i =
-        let h = rw le-sub at h in let i = rw lt-sub at i in rw lt-sub (omega tests)
+le-lt-trans a b c h k = yes-lt a c (omega (arith, le-yes a b h, lt-yes b c k))
 
 pub le-trans : (a b c : ℤ) → leZ a b ≡ true → leZ b c ≡ true → leZ a c ≡ true
-le-trans a b c = go (diff a) (diff b) (diff c)
-  where
-    go : {a b c : ℤ} → Diff a → Diff b → Diff c → leZ a b ≡ true → leZ b c ≡ true → leZ a c ≡ true
-    go (minus a a′) (minus b b′) (minus c c′) h i =
-        let h = rw le-sub at h in let i = rw le-sub at i in rw le-sub (omega tests)
+le-trans a b c h k = yes-le a c (omega (arith, le-yes a b h, le-yes b c k))
 
 pub le-refl : (a : ℤ) → leZ a a ≡ true
-le-refl a = go (diff a)
-  where
-    go : {a : ℤ} → Diff a → leZ a a ≡ true
-    go (minus a a′) = rw le-sub (omega tests)
-
--- a failed test is the other test passed
-pub le-is-not-lt : (a b : ℤ) → leZ a b ≡ not (ltZ b a)
-le-is-not-lt a b = go (diff a) (diff b)
-  where
-    same : (a b : ℕ) → leb a b ≡ not (ltb b a)
-    same a b = at (ltb b a) refl
-      where
-        at : (t : Bool) → ltb b a ≡ t → leb a b ≡ not t
-        at true e = omega tests
-        at false e = omega tests
-
-    go : {a b : ℤ} → Diff a → Diff b → leZ a b ≡ not (ltZ b a)
-    go (minus a a′) (minus b b′) = rw (le-sub, lt-sub) (same (a + b′) (b + a′))
+le-refl a = yes-le a a (omega arith)
 
 pub lt-le : (a b : ℤ) → ltZ a b ≡ true → leZ a b ≡ true
-lt-le a b = go (diff a) (diff b)
-  where
-    go : {a b : ℤ} → Diff a → Diff b → ltZ a b ≡ true → leZ a b ≡ true
-    go (minus a a′) (minus b b′) h = let h = rw lt-sub at h in rw le-sub (omega tests)
+lt-le a b h = yes-le a b (omega (arith, lt-yes a b h))
 
-not-not : (a b : Bool) → a ≡ not b → b ≡ not a
-not-not a true e = rw e
-not-not a false e = rw e
-
+-- a failed test is the other test passed
 pub lt-false : (a b : ℤ) → ltZ a b ≡ false → leZ b a ≡ true
-lt-false a b e = rw (le-is-not-lt b a, e)
+lt-false a b h = yes-le b a (lt-no a b h)
 
 pub lt-true : (a b : ℤ) → ltZ a b ≡ true → leZ b a ≡ false
-lt-true a b e = rw (le-is-not-lt b a, e)
+lt-true a b h = no-le b a (lt-yes a b h)
 
 pub le-false : (a b : ℤ) → leZ a b ≡ false → ltZ b a ≡ true
-le-false a b e = not-not (leZ a b) (ltZ b a) (le-is-not-lt a b) ∙ rw e
+le-false a b h = yes-lt b a (le-no a b h)
 
 pub le-true : (a b : ℤ) → leZ a b ≡ true → ltZ b a ≡ false
-le-true a b e = not-not (leZ a b) (ltZ b a) (le-is-not-lt a b) ∙ rw e
+le-true a b h = no-lt b a (le-yes a b h)
+
+pub le-not-lt : (a b : ℤ) → leZ a b ≡ not (ltZ b a)
+le-not-lt a b = go (ltZ b a) refl
+  where
+    go : (t : Bool) → ltZ b a ≡ t → leZ a b ≡ not t
+    go true e = lt-true b a e
+    go false e = lt-false b a e
+
+-- two numbers that are at most each other
+pub both-le : (a b : ℤ) → leZ a b && leZ b a ≡ true → a ≡ b
+both-le a b h = go (leZ a b) (leZ b a) refl refl h
+  where
+    go : (x y : Bool) → leZ a b ≡ x → leZ b a ≡ y → x && y ≡ true → a ≡ b
+    go true true p q h = same a b (omega (arith, le-yes a b p, le-yes b a q))
+    go true false p q h = absurd (no-way (sym h))
+    go false y p q h = absurd (no-way (sym h))

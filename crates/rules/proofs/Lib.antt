@@ -14,3 +14,4 @@ pub mod Bytes
 pub mod Record
 pub mod Examples
 pub mod Decision
+pub mod Slot

@@ -5,13 +5,13 @@ use mathlib.Core.Bool.{Bool, true, false, not, _&&_, _||_}
 use mathlib.Core.Option.{Option, none, some}
 use native.Mathlib.Omega.{arith}
 use native.Mathlib.Nat.{mul-le-mul-right, suc-mul, one-mul, zero-mul, lt-of-le-of-lt}
-use lib.IntN.{ℤ, pos, negsuc, negℤ, subℕ, _+ℤ_, _-ℤ_}
+use lib.IntN.{ℤ, pos, _+ℤ_, _-ℤ_}
 use lib.Signed.{ltZ, leZ}
 use lib.Dec.{ltb, leb, eqb, lit<}
 use lib.Arith.{lt-of-le-ne}
 use borrow.Author.Tests.{ltb-true, ltb-false, leb-true, lt-ltb}
 use Rattle.rules.proofs.Bools.{both, or-true, every-at, push}
-use Rattle.rules.proofs.Integers.{tests, Diff, minus, diff, le-sub, lt-sub, add-sub, neg-pos, pos-sub, sub-eq}
+use Rattle.rules.proofs.Integers.{tests, sum-law, le-yes, lt-yes}
 use Rattle.rules.proofs.Sums.{Σ<-ext, Σ<-zero, Σ<-one, Σ<-le, find-ext, find-none, find-some, digit}
 use Rattle.rules.proofs.Logs.{first-all}
 use Rattle.rules.proofs.Fallback.{fallback-more}
@@ -24,22 +24,24 @@ use Rattle.rules.specs.Ledger.{Posting, candidates, holder, chain, fallb
 
 -- ---- a print is canonical for one slot at most
 
-pub boundary-sub : (e e′ w m : ℕ) → subℕ e e′ -ℤ pos w +ℤ pos m ≡ subℕ (e + m) (e′ + w)
-boundary-sub e e′ w m =
-    rw (neg-pos w, add-sub e e′ 0 w, pos-sub m, add-sub (e + 0) (e′ + w) m 0)
-    (sub-eq (e + 0 + m) (e′ + w + 0) (e + m) (e′ + w) (omega arith))
-
-pub apart : {E at : ℤ} → Diff E → Diff at → (w s i j : ℕ) → i < j
+pub apart : (E at : ℤ) (w s i j : ℕ) → i < j
     → leZ (E -ℤ pos w +ℤ pos (j * s)) at ≡ true → ltZ at (E -ℤ pos w +ℤ pos (i * s) +ℤ pos s) ≡ true → ⊥
-apart (minus e e′) (minus a a′) w s i j l p q =
-    let p = rw (boundary-sub e e′ w (j * s), le-sub) at p in
-    let q = rw (boundary-sub e e′ w (i * s), pos-sub s, add-sub, lt-sub) at q in
-    omega (tests, mul-le-mul-right s l, suc-mul i s)
+apart E at w s i j l p q =
+    omega (
+      arith,
+      le-yes (E -ℤ pos w +ℤ pos (j * s)) at p,
+      lt-yes at (E -ℤ pos w +ℤ pos (i * s) +ℤ pos s) q,
+      sum-law (E -ℤ pos w) (pos (j * s)),
+      sum-law (E -ℤ pos w) (pos (i * s)),
+      sum-law (E -ℤ pos w +ℤ pos (i * s)) (pos s),
+      mul-le-mul-right s l,
+      suc-mul i s,
+    )
 
 canonical-apart : (t : Terms) (E : ℤ) (i j : ℕ) (p : Print) → i < j → canonical t E i p ≡ true → canonical t E j p ≡ true → ⊥
 unfolding canonical
 canonical-apart t E i j p l ci cj =
-    apart (diff E) (diff (p .published)) (t .window) (t .slot) i j l
+    apart E (p .published) (t .window) (t .slot) i j l
     (every-at (canonicalTests t E j p) 0 cj) (every-at (canonicalTests t E i p) 1 ci)
 
 pub canonical-one : (t : Terms) (E : ℤ) (i k : ℕ) (p : Print) → (i ≡ k → ⊥) → canonical t E k p ≡ true → canonical t E i p ≡ false

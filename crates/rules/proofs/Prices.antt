@@ -85,18 +85,18 @@ module _ (o : Opening) (ps : Log Posting) (g : goodTerms (o .terms) ≡ true) wh
 
   -- ---- each step of the decision
 
-  settle-fair : (c : Candidates) (t : ℤ) (m : Method) (s n : ℕ) → number m < number Method.Void → s ≡ total (pricesFor o ps m) → n ≡ size (pricesFor o ps m)
-      → FairAnswer o ps (settle (o .terms) (o .expiry) c t m s n)
-  settle-fair c t m s n h es en = go (mean s n (o .terms .exponent)) refl
+  settle-fair : (m : Method) (s n : ℕ) → number m < number Method.Void → s ≡ total (pricesFor o ps m) → n ≡ size (pricesFor o ps m)
+      → FairAnswer o ps (settle (o .terms .exponent) m s n)
+  settle-fair m s n h es en = go (mean s n (o .terms .exponent)) refl
     where
       go : (r : Result ℕ) → mean s n (o .terms .exponent) ≡ r → FairAnswer o ps (settleAt m n r)
       go (ok p) e = fair {m = m} {p = p} {n = n} (record { byPrice = h; counted = en; priced = rw (← es, ← en) e })
       go (refused r) e = refusal
 
-  fallback-fair : (c : Candidates) (t : ℤ) → ltb 0 (candidates o ps .fallbackPrice) ≡ true
-      → FairAnswer o ps (settle (o .terms) (o .expiry) c t Method.Fallback (candidates o ps .fallbackPrice) 1)
+  fallback-fair : ltb 0 (candidates o ps .fallbackPrice) ≡ true
+      → FairAnswer o ps (settle (o .terms .exponent) Method.Fallback (candidates o ps .fallbackPrice) 1)
   unfolding pricesFor candidates
-  fallback-fair c t e = let (s, n) = go (fallback o ps) e in settle-fair c t Method.Fallback (maybe 0 (λ p. p .print .price) (fallback o ps)) 1 (omega arith) s n
+  fallback-fair e = let (s, n) = go (fallback o ps) e in settle-fair Method.Fallback (maybe 0 (λ p. p .print .price) (fallback o ps)) 1 (omega arith) s n
     where
       go : (f : Option Posting) → ltb 0 (maybe 0 (λ p. p .print .price) f) ≡ true
           → (maybe 0 (λ p. p .print .price) f ≡ total (map (λ p. p .print .price) (put ε f))) × (1 ≡ size (map (λ p. p .print .price) (put ε f)))
@@ -107,11 +107,11 @@ module _ (o : Opening) (ps : Log Posting) (g : goodTerms (o .terms) ≡ true) wh
   unfolding pricesFor
   decide-fair t =
       decide-each (FairAnswer o ps) (o .terms) (o .expiry) c t (λ u. wait) refusal void
-      (settle-fair c t Method.Window (c .sum) _ (omega arith) sum-is ones-is)
-      (settle-fair c t Method.NextPrint (total (c .prices)) _ (omega arith) prices-is links-is)
-      (settle-fair c t Method.PartialNextPrint (total (c .prices)) _ (omega arith) prices-is links-is)
-      (settle-fair c t Method.PartialWindow (c .sum) _ (omega arith) sum-is ones-is)
-      (λ e. fallback-fair c t e)
+      (settle-fair Method.Window (c .sum) _ (omega arith) sum-is ones-is)
+      (settle-fair Method.NextPrint (total (c .prices)) _ (omega arith) prices-is links-is)
+      (settle-fair Method.PartialNextPrint (total (c .prices)) _ (omega arith) prices-is links-is)
+      (settle-fair Method.PartialWindow (c .sum) _ (omega arith) sum-is ones-is)
+      (λ e. fallback-fair e)
     where
       c : Candidates
       c = candidates o ps

@@ -21,16 +21,16 @@ pub data Decides (d : ℤ → Answer) : ℕ → ℤ → Type 0 where
   waits : {n : ℕ} {t : ℤ} (until : ℤ) → fits until ≡ true → d t ≡ Wait until → Decides d n until → Decides d (suc n) t
 
 module _ (t : Terms) (E : ℤ) (c : Candidates) (good : goodTerms t ≡ true) where
-  settle-settled : (now : ℤ) (m : Method) (s n : ℕ) → settled (settle t E c now m s n) ≡ true
+  settle-settled : (m : Method) (s n : ℕ) → settled (settle (t .exponent) m s n) ≡ true
   unfolding mean goodTerms
-  settle-settled now m s n = rw (every-at (termsTests t) 12 good) (go (eqb n 0 || leb (2 ^ 64) (rounded (numerator s (t .exponent)) (denominator n (t .exponent)))))
+  settle-settled m s n = rw (every-at (termsTests t) 12 good) (go (eqb n 0 || leb (2 ^ 64) (rounded (numerator s (t .exponent)) (denominator n (t .exponent)))))
     where
       go : (b : Bool) → settled (settleAt m n (if b then refused 0 else ok (rounded (numerator s (t .exponent)) (denominator n (t .exponent))))) ≡ true
       go true = refl
       go false = refl
 
   -- where the decision is, from now on, the answer a from T on
-  from-on : (T : ℤ) (a : Answer) → settled a ≡ true → (now : ℤ) → ((later : ℤ) → leZ now later ≡ true → decide t E c later ≡ from t E c later T a)
+  from-on : (T : ℤ) (a : Answer) → settled a ≡ true → (now : ℤ) → ((later : ℤ) → leZ now later ≡ true → decide t E c later ≡ from later T a)
       → (n : ℕ) → Decides (decide t E c) (suc n) now
   from-on T a s now h n = go (fits T) (ltZ now T) refl refl
     where
@@ -64,13 +64,13 @@ module _ (t : Terms) (E : ℤ) (c : Candidates) (good : goodTerms t ≡ true) wh
     where
       go : (b₅ b₆ b₇ : Bool) → ltb 0 M ≡ b₅ → ltb 0 N ≡ b₆ → ltb 0 (c .fallbackPrice) ≡ b₇ → Decides (decide t E c) (suc n) now
       go true b₆ b₇ e₅ e₆ e₇ =
-          from-on (maxZ H (c .linkChanged) +ℤ D) (settle t E c now Method.PartialNextPrint (total (c .prices)) M) (settle-settled now Method.PartialNextPrint (total (c .prices)) M) now
+          from-on (maxZ H (c .linkChanged) +ℤ D) (settle (t .exponent) Method.PartialNextPrint (total (c .prices)) M) (settle-settled Method.PartialNextPrint (total (c .prices)) M) now
           (λ later r. rw (not-before E now later l r, e₁, e₂, e₃, e₄, not-before H now later h r, e₅)) n
       go false true b₇ e₅ e₆ e₇ =
-          from-on (maxZ H (c .windowChanged) +ℤ D) (settle t E c now Method.PartialWindow (c .sum) N) (settle-settled now Method.PartialWindow (c .sum) N) now
+          from-on (maxZ H (c .windowChanged) +ℤ D) (settle (t .exponent) Method.PartialWindow (c .sum) N) (settle-settled Method.PartialWindow (c .sum) N) now
           (λ later r. rw (not-before E now later l r, e₁, e₂, e₃, e₄, not-before H now later h r, e₅, e₆)) n
       go false false true e₅ e₆ e₇ =
-          from-on (maxZ H (c .fallbackChanged) +ℤ D) (settle t E c now Method.Fallback (c .fallbackPrice) 1) (settle-settled now Method.Fallback (c .fallbackPrice) 1) now
+          from-on (maxZ H (c .fallbackChanged) +ℤ D) (settle (t .exponent) Method.Fallback (c .fallbackPrice) 1) (settle-settled Method.Fallback (c .fallbackPrice) 1) now
           (λ later r. rw (not-before E now later l r, e₁, e₂, e₃, e₄, not-before H now later h r, e₅, e₆, e₇)) n
       go false false false e₅ e₆ e₇ =
           from-on (H +ℤ D) Answer.Void refl now (λ later r. rw (not-before E now later l r, e₁, e₂, e₃, e₄, not-before H now later h r, e₅, e₆, e₇)) n
@@ -84,12 +84,12 @@ module _ (t : Terms) (E : ℤ) (c : Candidates) (good : goodTerms t ≡ true) wh
           → Decides (decide t E c) (suc (suc n)) now
       go false b₂ b₃ b₄ e₁ e₂ e₃ e₄ = stays {t = now} (Refused 0) refl (λ later r. rw (not-before E now later l r, e₁))
       go true true b₃ b₄ e₁ e₂ e₃ e₄ =
-          stays {t = now} (settle t E c now Method.Window (c .sum) N) (settle-settled now Method.Window (c .sum) N) (λ later r. rw (not-before E now later l r, e₁, e₂))
+          stays {t = now} (settle (t .exponent) Method.Window (c .sum) N) (settle-settled Method.Window (c .sum) N) (λ later r. rw (not-before E now later l r, e₁, e₂))
       go true false true b₄ e₁ e₂ e₃ e₄ =
-          from-on (maxZ E (c .windowChanged) +ℤ D) (settle t E c now Method.Window (c .sum) N) (settle-settled now Method.Window (c .sum) N) now
+          from-on (maxZ E (c .windowChanged) +ℤ D) (settle (t .exponent) Method.Window (c .sum) N) (settle-settled Method.Window (c .sum) N) now
           (λ later r. rw (not-before E now later l r, e₁, e₂, e₃)) (suc n)
       go true false false true e₁ e₂ e₃ e₄ =
-          from-on (E +ℤ D) (settle t E c now Method.NextPrint (total (c .prices)) M) (settle-settled now Method.NextPrint (total (c .prices)) M) now
+          from-on (E +ℤ D) (settle (t .exponent) Method.NextPrint (total (c .prices)) M) (settle-settled Method.NextPrint (total (c .prices)) M) now
           (λ later r. rw (not-before E now later l r, e₁, e₂, e₃, e₄)) (suc n)
       go true false false false e₁ e₂ e₃ e₄ = at (ltZ now H) refl
         where

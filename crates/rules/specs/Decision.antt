@@ -24,6 +24,14 @@ abbrev pub settleAt : Method → ℕ → Result ℕ → Answer
 settleAt m samples (ok price) = Settle m price samples
 settleAt m samples (refused r) = Refused r
 
+-- by the mean of the prices with this sum, at the exponent e
+abbrev pub settle : ℤ → Method → ℕ → ℕ → Answer
+settle e m sum samples = settleAt m samples (mean sum samples e)
+
+-- "Before "from" the answer is Wait until then; a sum that does not fit is 0."
+abbrev pub from : ℤ → ℤ → Answer → Answer
+from now T a = if not (fits T) then Refused 0 else if ltZ now T then Wait T else a
+
 -- the answer of the first case whose test passes, or else the last one
 infix 80 _⇒_
 pub data Case : Type 0 where
@@ -34,19 +42,15 @@ firstOf [] otherwise = otherwise
 firstOf ((test ⇒ a) ∷ cases) otherwise = if test then a else firstOf cases otherwise
 
 module _ (t : Terms) (E : ℤ) (c : Candidates) (now : ℤ) where
-  -- "Before "from" the answer is Wait until then; a sum that does not fit is 0."
-  abbrev pub from : ℤ → Answer → Answer
-  from T a = if not (fits T) then Refused 0 else if ltZ now T then Wait T else a
-
-  abbrev pub settle : Method → ℕ → ℕ → Answer
-  settle m sum samples = settleAt m samples (mean sum samples (t .exponent))
-
   -- "H = E + hard"; "n slots filled, m links"
   abbrev pub H : ℤ
   H = E +ℤ pos (t .hard)
 
   abbrev pub D : ℤ
   D = pos (t .delay)
+
+  abbrev pub e : ℤ
+  e = t .exponent
 
   abbrev pub n : ℕ
   n = ones (c .bits)
@@ -59,14 +63,14 @@ module _ (t : Terms) (E : ℤ) (c : Candidates) (now : ℤ) where
   steps =
       ltZ now E ⇒ Wait E
       ∷ not (fits H) ⇒ Refused 0
-      ∷ leb (slots t) n ⇒ settle Method.Window (c .sum) n
-      ∷ leb (t .minimum) n ⇒ from (maxZ E (c .windowChanged) +ℤ D) (settle Method.Window (c .sum) n)
-      ∷ leb (t .k) m ⇒ from (E +ℤ D) (settle Method.NextPrint (total (c .prices)) m)
+      ∷ leb (slots t) n ⇒ settle e Method.Window (c .sum) n
+      ∷ leb (t .minimum) n ⇒ from now (maxZ E (c .windowChanged) +ℤ D) (settle e Method.Window (c .sum) n)
+      ∷ leb (t .k) m ⇒ from now (E +ℤ D) (settle e Method.NextPrint (total (c .prices)) m)
       ∷ ltZ now H ⇒ Wait H
-      ∷ ltb 0 m ⇒ from (maxZ H (c .linkChanged) +ℤ D) (settle Method.PartialNextPrint (total (c .prices)) m)
-      ∷ ltb 0 n ⇒ from (maxZ H (c .windowChanged) +ℤ D) (settle Method.PartialWindow (c .sum) n)
-      ∷ ltb 0 (c .fallbackPrice) ⇒ from (maxZ H (c .fallbackChanged) +ℤ D) (settle Method.Fallback (c .fallbackPrice) 1) ∷ []
+      ∷ ltb 0 m ⇒ from now (maxZ H (c .linkChanged) +ℤ D) (settle e Method.PartialNextPrint (total (c .prices)) m)
+      ∷ ltb 0 n ⇒ from now (maxZ H (c .windowChanged) +ℤ D) (settle e Method.PartialWindow (c .sum) n)
+      ∷ ltb 0 (c .fallbackPrice) ⇒ from now (maxZ H (c .fallbackChanged) +ℤ D) (settle e Method.Fallback (c .fallbackPrice) 1) ∷ []
 
   -- "6. Void from H + D."
   unfoldable pub decide : Answer
-  decide = firstOf steps (from (H +ℤ D) Answer.Void)
+  decide = firstOf steps (from now (H +ℤ D) Answer.Void)

@@ -5,7 +5,8 @@ use mathlib.Core.List.{List, [], _∷_}
 use lib.IntN.{ℤ, pos, negℤ}
 use lib.Signed.{leZ}
 use lib.Dec.{ltb, leb, eqb}
-use Rattle.rules.specs.Log.{every}
+use Rattle.rules.specs.Log.{if_then_else_, every}
+use Rattle.rules.specs.Answers.{Result, ok, refused}
 
 -- "Seconds, u32: window, slot, delay D, lookback, hard deadline. u16: tolerance, minimum. u8: k. i8: exponent e."
 pub record Terms : Type 0 where
@@ -42,3 +43,6 @@ termsTests t =
 
 unfoldable pub goodTerms : Terms → Bool
 goodTerms t = every (termsTests t)
+
+unfoldable pub newTerms : Terms → Result Terms
+newTerms t = if goodTerms t then ok t else refused 12

@@ -1,0 +1,10 @@
+pub mod Bits
+pub mod Chains
+pub mod Confidence
+pub mod Counts
+pub mod Division
+pub mod Links
+pub mod Places
+pub mod Placing
+pub mod Slots
+pub mod Tests

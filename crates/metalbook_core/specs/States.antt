@@ -1,0 +1,73 @@
+-- The state and its stored parts, read as the rules' parts.
+use Prim.Native.Nat.{ℕ, zero, suc, _+_, _*_, _-_, _^_}
+use mathlib.Core.Bool.{Bool, true, _&&_, _||_}
+use mathlib.Core.List.{List}
+use lib.ListN.{getD}
+use lib.IntN.{ℤ, pos}
+use lib.Signed.{ltZ}
+use lib.Dec.{ltb, eqb}
+use Rattle.rules.specs.Log.{if_then_else_}
+use Rattle.rules.specs.Answers as R
+use Rattle.rules.specs.Prints.{eqZ}
+use Rattle.rules.specs.State.{Parts}
+use Rattle.metalbook_core.specs.Errors.{numberOf}
+use Rattle.metalbook_core.specs.declared.settlement.state.SettlementState.{SettlementState}
+use Rattle.metalbook_core.specs.declared.settlement.state.SettlementParts.{SettlementParts}
+use Rattle.metalbook_core.specs.declared.settlement.state.Check.{Check}
+use Rattle.metalbook_core.specs.declared.settlement.state.Check.the-variants as C
+use Rattle.metalbook_core.specs.declared.settlement.state.Restored.{Restored}
+
+unfoldable pub stateOf : SettlementState → Parts
+stateOf s =
+    record {
+      bits = s .«filled_slots»;
+      sum = s .«sample_sum_high» * 2 ^ 64 + s .«sample_sum_low»;
+      links = s .«next_len»;
+      times = s .«next_times»;
+      prices = s .«next_prices»;
+      fallbackTime = s .«fallback_time»;
+      fallbackPrice = s .«fallback_price»;
+      windowChanged = s .«window_changed»;
+      linkChanged = s .«next_print_changed»;
+      fallbackChanged = s .«fallback_changed»;
+    }
+
+unfoldable pub storedOf : SettlementParts → Parts
+storedOf s =
+    record {
+      bits = s .«filled_slots»;
+      sum = s .«sample_sum_high» * 2 ^ 64 + s .«sample_sum_low»;
+      links = s .«next_len»;
+      times = s .«next_times»;
+      prices = s .«next_prices»;
+      fallbackTime = s .«fallback_time»;
+      fallbackPrice = s .«fallback_price»;
+      windowChanged = s .«window_changed»;
+      linkChanged = s .«next_print_changed»;
+      fallbackChanged = s .«fallback_changed»;
+    }
+
+abbrev pub checkedAs : Check → Parts → R.Result Parts
+checkedAs C.Ok s = R.ok s
+checkedAs (C.Err e) s = R.refused (numberOf e)
+
+abbrev pub restoredOf : Restored → R.Result Parts
+restoredOf r = checkedAs (r .result) (stateOf (r .state))
+
+-- the value, or d on a refusal
+abbrev pub valueOr : {A : Type 0} → A → R.Result A → A
+valueOr d (R.ok a) = a
+valueOr d (R.refused r) = d
+
+-- ---- the links' five places, one by one
+
+-- place i of n links: a price, and a time after the one before it; or zeros
+unfoldable pub linkPlace : List ℤ → List ℕ → ℕ → ℕ → Bool
+linkPlace times prices n i =
+    if ltb i n then ltb 0 (getD prices i 0) && (eqb i 0 || ltZ (getD times (i - 1) (pos 0)) (getD times i (pos 0)))
+    else eqZ (getD times i (pos 0)) (pos 0) && eqb (getD prices i 0) 0
+
+-- every place below n passes the test
+unfoldable pub allPlaces : (ℕ → Bool) → ℕ → Bool
+allPlaces test zero = true
+allPlaces test (suc n) = allPlaces test n && test n

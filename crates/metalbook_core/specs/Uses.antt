@@ -1,0 +1,17 @@
+-- What a print is used for, read as the rules' answer.
+use Prim.Native.Nat.{ℕ}
+use mathlib.Core.Option.{Option, none, some}
+use Rattle.rules.specs.Answers as R
+use Rattle.metalbook_core.specs.Errors.{numberOf}
+use Rattle.metalbook_core.specs.declared.settlement.take.Index.{Index}
+use Rattle.metalbook_core.specs.declared.settlement.take.Index.the-variants as I
+use Rattle.metalbook_core.specs.declared.settlement.take.PrintUseResult.{PrintUseResult}
+use Rattle.metalbook_core.specs.declared.settlement.take.PrintUseResult.the-variants as P
+
+abbrev pub indexOf : Index → Option ℕ
+indexOf (I.At i) = some i
+indexOf I.None = none
+
+abbrev pub usedOf : PrintUseResult → R.Answer
+usedOf (P.Ok u) = R.Used (indexOf (u .slot)) (indexOf (u .«next_print»)) (u .fallback)
+usedOf (P.Err e) = R.Refused (numberOf e)

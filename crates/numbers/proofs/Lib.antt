@@ -1,0 +1,5 @@
+pub mod Little
+pub mod Ranges
+pub mod Times
+pub mod TwosComplement
+pub mod Wides

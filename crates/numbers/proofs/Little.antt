@@ -1,0 +1,28 @@
+-- The number in n bytes by their places.
+use Prim.Native.Nat.{ℕ, zero, suc, _+_, _*_}
+use mathlib.Core.Path.{_≡_, refl, ap, _∙_}
+use mathlib.Core.List.{List, [], _∷_}
+use native.Mathlib.Omega.{arith}
+use lib.ListN.{length, getD}
+use Rattle.rules.specs.Bytes.{little}
+
+-- the bytes of l from place i on, n of them
+abbrev pub placed : ℕ → List ℕ → ℕ → ℕ
+placed zero l i = 0
+placed (suc zero) l i = getD l i 0
+placed (suc (suc n)) l i = getD l i 0 + 256 * placed (suc n) l (suc i)
+
+placed-next : (n x : ℕ) (l : List ℕ) (i : ℕ) → placed n (x ∷ l) (suc i) ≡ placed n l i
+placed-next zero x l i = refl
+placed-next (suc zero) x l i = refl
+placed-next (suc (suc n)) x l i = ap (λ (m : ℕ). getD l i 0 + 256 * m) (placed-next (suc n) x l (suc i))
+
+pub little-is : (n : ℕ) (l : List ℕ) → length l ≡ n → placed n l 0 ≡ little l
+little-is zero [] e = refl
+little-is zero (x ∷ l) e = let c : ⊥ = omega arith in absurd c
+little-is (suc zero) [] e = let c : ⊥ = omega arith in absurd c
+little-is (suc zero) (x ∷ []) e = omega arith
+little-is (suc zero) (x ∷ (y ∷ l)) e = let c : ⊥ = omega arith in absurd c
+little-is (suc (suc n)) [] e = let c : ⊥ = omega arith in absurd c
+little-is (suc (suc n)) (x ∷ l) e =
+    ap (λ (m : ℕ). x + 256 * m) (placed-next (suc n) x l 0 ∙ little-is (suc n) l (omega arith))

@@ -1,0 +1,115 @@
+// Numbers in bytes: little-endian, signed ones in two's complement.
+ghost use mathlib.Core.Path.{_≡_};
+ghost use Prim.Native.Nat.{_<_};
+ghost use Rattle.rules.specs.Bytes.{little, signed, bytes, word};
+
+fn wide(b: u8) -> u64
+    ensures { λ r. ⌜ (r ≡ b) × (r < 256) ⌝ }
+{
+    b as u64
+}
+
+// ---- reading
+
+pub fn u16_from_le(b: [u8; 2]) -> u16
+    ensures { λ r. ⌜ r ≡ little b ⌝ }
+{
+    (wide(b[0]) + 256 * wide(b[1])) as u16
+}
+
+pub fn u32_from_le(b: [u8; 4]) -> u32
+    ensures { λ r. ⌜ r ≡ little b ⌝ }
+{
+    (wide(b[0]) + 256 * (wide(b[1]) + 256 * (wide(b[2]) + 256 * wide(b[3])))) as u32
+}
+
+pub fn u64_from_le(b: [u8; 8]) -> u64
+    ensures { λ r. ⌜ r ≡ little b ⌝ }
+{
+    let high = wide(b[4]) + 256 * (wide(b[5]) + 256 * (wide(b[6]) + 256 * wide(b[7])));
+    wide(b[0]) + 256 * (wide(b[1]) + 256 * (wide(b[2]) + 256 * (wide(b[3]) + 256 * high)))
+}
+
+// ---- writing
+
+pub fn u16_to_le(x: u16) -> [u8; 2]
+    ensures { λ r. ⌜ r ≡ bytes 2 x ⌝ }
+{
+    [(x % 256) as u8, (x / 256 % 256) as u8]
+}
+
+pub fn u32_to_le(x: u32) -> [u8; 4]
+    ensures { λ r. ⌜ r ≡ bytes 4 x ⌝ }
+{
+    let x1 = x / 256;
+    let x2 = x1 / 256;
+    let x3 = x2 / 256;
+    [
+        (x % 256) as u8,
+        (x1 % 256) as u8,
+        (x2 % 256) as u8,
+        (x3 % 256) as u8,
+    ]
+}
+
+pub fn u64_to_le(x: u64) -> [u8; 8]
+    ensures { λ r. ⌜ r ≡ bytes 8 x ⌝ }
+{
+    let x1 = x / 256;
+    let x2 = x1 / 256;
+    let x3 = x2 / 256;
+    let x4 = x3 / 256;
+    let x5 = x4 / 256;
+    let x6 = x5 / 256;
+    let x7 = x6 / 256;
+    [
+        (x % 256) as u8,
+        (x1 % 256) as u8,
+        (x2 % 256) as u8,
+        (x3 % 256) as u8,
+        (x4 % 256) as u8,
+        (x5 % 256) as u8,
+        (x6 % 256) as u8,
+        (x7 % 256) as u8,
+    ]
+}
+
+// ---- two's complement
+
+pub fn i8_from_bits(x: u8) -> i8
+    ensures { λ r. ⌜ r ≡ signed 8 x ⌝ }
+{
+    if x < 128 { x as i8 } else { !((!x) as i8) }
+}
+
+pub fn i32_from_bits(x: u32) -> i32
+    ensures { λ r. ⌜ r ≡ signed 32 x ⌝ }
+{
+    if x < 0x8000_0000 {
+        x as i32
+    } else {
+        !((!x) as i32)
+    }
+}
+
+pub fn i64_from_bits(x: u64) -> i64
+    ensures { λ r. ⌜ r ≡ signed 64 x ⌝ }
+{
+    if x < 0x8000_0000_0000_0000 {
+        x as i64
+    } else {
+        !((!x) as i64)
+    }
+}
+
+pub fn i8_to_bits(z: i8) -> u8
+    ensures { λ r. ⌜ r ≡ word 8 z ⌝ }
+{
+    if 0 <= z { z as u8 } else { !((!z) as u8) }
+}
+
+pub fn i64_to_bits(z: i64) -> u64
+    ensures { λ r. ⌜ r ≡ word 64 z ⌝ }
+{
+    if 0 <= z { z as u64 } else { !((!z) as u64) }
+}
