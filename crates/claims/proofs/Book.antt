@@ -1,28 +1,27 @@
 -- The book's bytes after any list, and the answers.
-use Prim.Native.Nat.{ℕ, zero, suc, _+_, _*_, _-_, _^_, _<_, _≤_}
+use Prim.Native.Nat.{ℕ, zero, suc, _+_, _*_, _<_}
 use mathlib.Core.Path.{_≡_, refl, sym, ap, ap₂, _∙_, fun-ext}
-use mathlib.Core.Bool.{Bool, true, false, not, _&&_, _||_}
+use mathlib.Core.Bool.{Bool, true, false}
 use mathlib.Core.Option.{Option, none, some}
-use mathlib.Core.List.{List, [], _∷_, _++_, append-assoc, append-nil}
+use mathlib.Core.List.{_++_, append-assoc, append-nil}
 use native.Mathlib.Omega.{arith}
 use native.Mathlib.Nat.{suc-mul}
 use lib.ListN.{length, take, drop, replicate, length-append, length-drop, replicate-append-replicate, drop-of-length-le}
 use lib.Seq.{take-at, drop-at, take-append-le, drop-append-le, take-all}
-use lib.Dec.{ltb, leb, eqb}
+use lib.Dec.{ltb, eqb}
 use lib.Arith.{lt-of-le-ne}
 use borrow.Author.Tests.{ltb-true, eq-eqb, eqb-true, eqb-false, ne-eqb}
 use Rattle.rules.proofs.Bools.{both}
-use Rattle.rules.proofs.Bytes.{length-bytes}
 use Rattle.rules.proofs.Fields.{commandFits}
 use Rattle.rules.proofs.Record.{ledger-stored}
 use Rattle.rules.specs.Log.{Log, ε, _▹_, if_then_else_, maybe, all}
-use Rattle.rules.specs.Bytes.{Bytes, areBytes, zeros, bytes, word}
-use Rattle.rules.specs.Answers.{Result, ok, refused, Answer, Refused}
+use Rattle.rules.specs.Bytes.{Bytes, areBytes, zeros, bytes}
+use Rattle.rules.specs.Answers.{ok}
 use Rattle.rules.specs.State.{partsOf}
-use Rattle.rules.specs.Series.{Command, Series, empty, live, fixed, step, changed, answer, after}
+use Rattle.rules.specs.Series.{Command, Series, empty, live, fixed, step, changed, after}
 use Rattle.rules.specs.Record.{recordSize, seriesCount, bookSize, fields, bytesOf, stored}
 use Rattle.rules.specs.Entries.{Entry, noCommand, command, entry}
-use Rattle.rules.specs.Book.{recordAt, replaced, answerIn, answerTo, written, afterIn, bookAfter, run}
+use Rattle.rules.specs.Book.{recordAt, replaced, answerIn, answerTo, afterIn, bookAfter, run}
 use Rattle.rules.specs.Ledger.{ledger, opening, commandsTo, ledgers, ledgerAnswer, records, bookOf}
 use Rattle.claims.proofs.Entries.{entryFits, entry-fits, commands-fit, seriesAfter, ledgers-more}
 

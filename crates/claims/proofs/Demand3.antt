@@ -1,16 +1,14 @@
 -- Demand 3 holds.
-use Prim.Native.Nat.{ℕ}
-use mathlib.Core.Path.{_≡_, refl, sym, ap, _∙_}
-use mathlib.Core.Bool.{Bool, true, false, _&&_}
+use mathlib.Core.Path.{_≡_, refl}
+use mathlib.Core.Bool.{Bool, true, false}
 use mathlib.Core.Option.{Option, none, some}
-use lib.IntN.{ℤ}
 use Rattle.rules.proofs.Bools.{both}
 use Rattle.rules.proofs.Prices.{FairAnswer, opened, used, wait, fair, void, refusal, answers-fair}
-use Rattle.rules.specs.Log.{Log, ε, _▹_, if_then_else_, maybe, all}
+use Rattle.rules.specs.Log.{Log, ε, _▹_, if_then_else_, all}
 use Rattle.rules.specs.Bytes.{Bytes, areBytes}
 use Rattle.rules.specs.Answers.{Answer, Opened, Refused}
 use Rattle.rules.specs.Terms.{goodTerms}
-use Rattle.rules.specs.Series.{Opening, Command, Open, Offer, Ask, Fix, Series, empty, live, noCandidates, keeps, leaves, step, answerOf, answer}
+use Rattle.rules.specs.Series.{Opening, Command, Open, Offer, Ask, Fix, empty, live, noCandidates, keeps, leaves, step, answerOf, answer}
 use Rattle.rules.specs.Entries.{Entry, noCommand, command, entry}
 use Rattle.rules.specs.Ledger.{opening, takenPrints, ledger, commandsTo, ledgers, ledgerAnswer}
 use Rattle.claims.specs.Demand3 as Claim

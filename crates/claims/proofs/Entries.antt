@@ -1,23 +1,21 @@
 -- An entry of bytes is a command that fits its fields, for one of the 64 series; and the ledgers after one more entry.
-use Prim.Native.Nat.{ℕ, zero, suc, _+_, _*_, _-_, _^_, _<_, _≤_}
-use mathlib.Core.Path.{_≡_, refl, sym, ap, _∙_, fun-ext}
+use Prim.Native.Nat.{ℕ, zero, suc}
+use mathlib.Core.Path.{_≡_, refl, fun-ext}
 use mathlib.Core.Bool.{Bool, true, false, _&&_}
-use mathlib.Core.Option.{Option, none, some}
-use mathlib.Core.List.{List, [], _∷_}
-use native.Mathlib.Omega.{arith}
-use lib.ListN.{length, take, drop}
-use lib.IntN.{ℤ, pos, negsuc}
-use lib.Dec.{ltb, leb, eqb}
+use mathlib.Core.Option.{none, some}
+use mathlib.Core.List.{[], _∷_}
+use lib.ListN.{length, drop}
+use lib.Dec.{ltb, eqb}
 use borrow.Author.Tests.{lt-ltb}
 use Rattle.rules.proofs.Bools.{both, every-at}
 use Rattle.rules.proofs.Logs.{all-mono, all-put}
 use Rattle.rules.proofs.Bytes.{little-below, signed-fits}
 use Rattle.rules.proofs.Series.{inRange, after-ledger}
 use Rattle.rules.proofs.Fields.{commandFits}
-use Rattle.rules.specs.Log.{Log, ε, _▹_, if_then_else_, maybe, put, all, every}
+use Rattle.rules.specs.Log.{Log, ε, _▹_, if_then_else_, maybe, put, all}
 use Rattle.rules.specs.Bytes.{Bytes, areBytes, unsignedAt, signedAt, fitsUnsigned, fitsSigned, fits}
-use Rattle.rules.specs.Series.{Opening, Command, Open, Offer, Ask, Fix, Series, after}
-use Rattle.rules.specs.Record.{seriesCount, openingFields, openingFits}
+use Rattle.rules.specs.Series.{Command, Open, Offer, Ask, Fix, Series, after}
+use Rattle.rules.specs.Record.{seriesCount, openingFits}
 use Rattle.rules.specs.Entries.{Entry, noCommand, command, openingAt, quoteAt, nowAt, ofWidth, entry}
 use Rattle.rules.specs.Ledger.{ledger, commandTo, commandsTo, ledgers}
 

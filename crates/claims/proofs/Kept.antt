@@ -1,9 +1,9 @@
 -- A refusal changes no byte, and an entry changes no byte of another series' record.
-use Prim.Native.Nat.{ℕ, zero, suc, _+_, _*_, _-_, _<_, _≤_}
+use Prim.Native.Nat.{ℕ, _+_, _*_, _-_, _<_, _≤_}
 use mathlib.Core.Path.{_≡_, refl, sym, ap, _∙_}
-use mathlib.Core.Bool.{Bool, true, false, _&&_}
+use mathlib.Core.Bool.{Bool, true, false}
 use mathlib.Core.Option.{Option, none, some}
-use mathlib.Core.List.{List, [], _∷_, _++_, append-assoc}
+use mathlib.Core.List.{_++_, append-assoc}
 use native.Mathlib.Omega.{arith}
 use lib.ListN.{length, take, drop, length-append, length-take, length-drop, take-append-drop}
 use lib.Seq.{take-append-le, drop-append-le, drop-append-add, drop-drop}
@@ -13,8 +13,8 @@ use borrow.Author.Tests.{ltb-true, ltb-false, eqb-true, eqb-false}
 use Rattle.rules.proofs.Bools.{both}
 use Rattle.rules.specs.Log.{if_then_else_, maybe}
 use Rattle.rules.specs.Bytes.{Bytes}
-use Rattle.rules.specs.Answers.{Result, ok, refused, Answer, Refused}
-use Rattle.rules.specs.Series.{Command, Series, step, changed, answer}
+use Rattle.rules.specs.Answers.{Result, ok, refused, Refused}
+use Rattle.rules.specs.Series.{Command, Series, step, changed}
 use Rattle.rules.specs.Record.{recordSize, seriesCount, bookSize, bytesOf, stored}
 use Rattle.rules.specs.Entries.{Entry, noCommand, command, entry}
 use Rattle.rules.specs.Book.{recordAt, replaced, storedAnswer, answerIn, answerTo, written, afterIn, bookAfter}

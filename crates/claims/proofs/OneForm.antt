@@ -1,27 +1,25 @@
 -- Each acceptable record has one byte form: what was read from it writes back as the same bytes.
-use Prim.Native.Nat.{ℕ, zero, suc, _+_, _*_, _-_, _/_, _%_, _^_, _<_, _≤_}
+use Prim.Native.Nat.{ℕ, zero, suc, _+_, _/_, _%_, _^_, _<_, _≤_}
 use mathlib.Core.Path.{_≡_, refl, sym, ap, ap₂, _∙_}
-use mathlib.Core.Bool.{Bool, true, false, not, _&&_, _||_}
-use mathlib.Core.Option.{Option, none, some}
-use mathlib.Core.List.{List, [], _∷_, _++_}
+use mathlib.Core.Bool.{Bool, true, false, _&&_, _||_}
+use mathlib.Core.List.{List, [], _∷_}
 use native.Mathlib.Omega.{arith}
-use lib.ListN.{length, take, drop, getD, replicate, length-append, length-take, length-drop}
+use lib.ListN.{length, take, drop, getD, replicate, length-take, length-drop}
 use lib.Seq.{take-all, take-add, drop-drop}
 use lib.IntN.{ℤ, pos, negsuc}
 use lib.Signed.{leZ}
-use lib.Dec.{ltb, leb, eqb}
-use borrow.Author.Tests.{ltb-true, ltb-false, leb-true, eqb-true, eqb-false}
+use lib.Dec.{ltb, eqb}
+use borrow.Author.Tests.{ltb-true, ltb-false, leb-true, eqb-true}
 use Rattle.rules.proofs.Bools.{both, test, every-at}
 use Rattle.rules.proofs.Logs.{size-front, nth-after, nth-front}
 use Rattle.rules.proofs.Decision.{decide-by-price}
 use Rattle.rules.proofs.Record.{outcome-back, written-read}
 use Rattle.rules.proofs.Bytes.{bytes-little, word-signed, little-below}
-use Rattle.rules.specs.Log.{Log, if_then_else_, size, nth, front, every}
-use Rattle.rules.specs.Bytes.{Bytes, areBytes, zeros, allZero, concat, little, signed, unsignedAt, signedAt, bytes, word, signedBytes}
-use Rattle.rules.specs.Answers.{Result, ok, refused, Method, number, method, Answer, Opened, Used, Wait, Settle, Refused, final}
-use Rattle.rules.specs.Terms.{Terms, goodTerms, termsTests}
+use Rattle.rules.specs.Log.{if_then_else_, size, nth, front, every}
+use Rattle.rules.specs.Bytes.{Bytes, areBytes, zeros, allZero, concat, little, unsignedAt, signedAt, bytes, word, signedBytes}
+use Rattle.rules.specs.Answers.{ok, refused, method, Answer}
 use Rattle.rules.specs.Prints.{eqZ}
-use Rattle.rules.specs.State.{Parts, candidatesOf, five, partsOf, zeroAfter, restoreTests, goodState}
+use Rattle.rules.specs.State.{Parts, candidatesOf, partsOf, zeroAfter, restoreTests, goodState}
 use Rattle.rules.specs.Series.{Opening, Series, empty, live, fixed, decided}
 use Rattle.rules.specs.Record.{recordSize, methodOf, samplesOf, priceOf, fields, bytesOf, outcome, openingIn, partsIn, tagIn, samplesIn, methodIn, fixingTimeIn, priceIn, seriesIn, bodyTests, openTests, fixedTests, acceptable, stored}
 use Rattle.claims.specs.OneForm.{isRecord, OneForm}

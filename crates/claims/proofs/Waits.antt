@@ -1,30 +1,27 @@
 -- An open series asked after a list, with other entries between the asks.
-use Prim.Native.Nat.{ℕ, zero, suc, _<_, _^_}
+use Prim.Native.Nat.{ℕ, suc, _<_, _^_}
 use mathlib.Core.Path.{_≡_, refl, sym, ap, _∙_}
 use mathlib.Core.Bool.{Bool, true, false, not, _&&_, _||_}
 use mathlib.Core.Option.{Option, none, some}
-use mathlib.Core.List.{List, [], _∷_}
 use native.Mathlib.Omega.{arith}
-use lib.IntN.{ℤ, pos}
-use lib.Signed.{leZ}
-use lib.Dec.{ltb, eqb}
-use borrow.Author.Tests.{lt-ltb, ltb-true, eqb-true, eq-eqb}
+use lib.IntN.{ℤ}
+use lib.Dec.{eqb}
+use borrow.Author.Tests.{lt-ltb, eqb-true, eq-eqb}
 use Rattle.rules.proofs.Bools.{both, every-at}
 use Rattle.rules.proofs.Bytes.{bytes-are, little-bytes, signed-word, word-below}
 use Rattle.rules.proofs.Series.{opening-good}
 use Rattle.rules.proofs.Fields.{opening-fits}
 use Rattle.rules.proofs.Waits.{Decides, stays, waits, three-waits}
-use Rattle.rules.specs.Log.{Log, ε, _▹_, if_then_else_, isSome, maybe, all}
-use Rattle.rules.specs.Bytes.{Bytes, areBytes, signed, unsignedAt, signedAt, bytes, word, signedBytes, fits}
-use Rattle.rules.specs.Answers.{Result, ok, refused, Answer, Opened, Used, Wait, Settle, Refused, final, isUsed}
+use Rattle.rules.specs.Log.{Log, ε, _▹_, if_then_else_, isSome, all}
+use Rattle.rules.specs.Bytes.{Bytes, areBytes, signed, unsignedAt, signedAt, bytes, word, fits}
+use Rattle.rules.specs.Answers.{Result, ok, refused, Answer, Opened, Used, Wait, Settle, Refused, isUsed}
 use Rattle.rules.specs.Terms.{goodTerms}
 use Rattle.rules.specs.Prints.{Print, accept}
 use Rattle.rules.specs.Taking.{Candidates, printAnswer, place}
-use Rattle.rules.specs.Decision.{decide}
-use Rattle.rules.specs.Series.{Opening, Command, Open, Offer, Ask, Fix, Series, empty, live, fixed, noCandidates, keeps, leaves, decided, offered, waiting, fixing, step, answerOf, changed, answer, after}
+use Rattle.rules.specs.Series.{Opening, Command, Open, Offer, Ask, Fix, Series, empty, live, fixed, noCandidates, keeps, leaves, decided, offered, fixing, step, answerOf, changed, answer, after}
 use Rattle.rules.specs.Record.{seriesCount, openingFields, openingFits}
 use Rattle.rules.specs.Entries.{Entry, noCommand, command, entry}
-use Rattle.rules.specs.Ledger.{opening, candidates, Freeze, freeze, takenPrints, since, ledger, commandTo, commandsTo, ledgers, isOpen, ledgerAnswer}
+use Rattle.rules.specs.Ledger.{opening, candidates, Freeze, freeze, takenPrints, ledger, commandTo, commandsTo, ledgers, isOpen, ledgerAnswer}
 use Rattle.claims.specs.Demand3.{answered, askOf, isAsk, isRefused, mayStand, _▹▹_, between, Settles}
 use Rattle.claims.proofs.Entries.{commands-fit, seriesAfter, ledgers-more}
 use Rattle.claims.proofs.Book.{answer-is}

@@ -3,7 +3,7 @@ use Prim.Native.Nat.{ℕ, suc, _<_}
 use mathlib.Core.Path.{_≡_}
 use mathlib.Core.Bool.{Bool, true, false, _&&_, _||_}
 use mathlib.Core.Option.{Option, none, some}
-use mathlib.Core.List.{List, [], _∷_}
+use mathlib.Core.List.{_∷_}
 use lib.IntN.{ℤ}
 use lib.Signed.{leZ}
 use Rattle.rules.specs.Log.{Log, ε, _▹_}

@@ -1,11 +1,10 @@
 -- Laws of division for the mean.
-use Prim.Native.Nat.{ℕ, zero, suc, _+_, _*_, _/_, _%_, _≤_, _<_, _^_}
-use mathlib.Core.Path.{_≡_, refl, sym, ap, _∙_}
-use mathlib.Core.Bool.{Bool, true, false}
+use Prim.Native.Nat.{ℕ, _+_, _*_, _/_, _%_, _≤_, _<_, _^_}
+use mathlib.Core.Path.{_≡_, sym, ap, _∙_}
 use native.Mathlib.Omega.{arith}
-use native.Mathlib.Nat.{div-add-mod', mod-lt, add-mul, mul-right-comm, mul-comm, mul-assoc, add-mul-div-right, div-div-eq-div-mul, div-lt-iff-lt-mul, le-div-iff-mul-le, mul-le-mul, mul-le-mul-left, mul-le-mul-right, mul-pos, div-lt-self}
+use native.Mathlib.Nat.{div-add-mod', add-mul, mul-right-comm, mul-comm, add-mul-div-right, div-div-eq-div-mul, div-lt-iff-lt-mul, le-div-iff-mul-le, mul-le-mul-left, mul-le-mul-right, mul-pos}
 use borrow.Author.Tests.{lt-leb, le-leb}
-use Rattle.rules.specs.Answers.{Result, ok, refused}
+use Rattle.rules.specs.Answers.{ok, refused}
 use Rattle.rules.specs.Mean.{rounded}
 use Rattle.metalbook_core.specs.Prices.{priced}
 

@@ -1,19 +1,17 @@
 -- Two's complement, over the width: a number that is not negative is its own bits, and the complement of a negative one's bits is not negative.
-use mathlib.Core.Path.{_≡_, refl, sym, ap, _∙_, subst}
+use mathlib.Core.Path.{_≡_, refl, ap}
 use mathlib.Core.Bool.{Bool, true, false}
-use Prim.Native.Nat.{ℕ, suc, _+_, _-_, _^_, _≤_, _<_}
-use native.Mathlib.Nat.{lt-of-lt-of-le}
+use Prim.Native.Nat.{ℕ, suc, _-_, _^_, _≤_, _<_}
 use native.Mathlib.Omega.{arith}
 use lib.Dec.{T, ltb, lit≤}
 use borrow.Author.Tests.{leb-false}
-use lib.Pow.{pow-mono, pow-pos}
 use lib.IntN.{ℤ, pos, negsuc, natAbs}
-use lib.Signed.{leZ, nonNeg, mag}
+use lib.Signed.{leZ, nonNeg}
 use mir.Syntax.{Width, w8, w16, w32, w64, w128}
 use mir.Val.{sel, Fits, SFits, bits, hbits, toZ, ofZ}
 use Rattle.rules.specs.Log.{if_then_else_}
 use Rattle.rules.specs.Bytes.{signed, word}
-use mir.Facts.{toZ-ofZ, ofZ-toZ, toZ-pos, fits-ofZ, fits-of-lt}
+use mir.Facts.{toZ-ofZ, toZ-pos, fits-of-lt}
 
 half-le : (w : Width) → 2 ^ hbits w ≤ 2 ^ bits w
 half-le w8 = lit≤ tt

@@ -1,5 +1,4 @@
 -- Times as whole numbers, where they fit an i64.
-use mathlib.Core.Bool.{Bool}
 use lib.IntN.{ℤ, natAbs, _-ℤ_}
 use lib.Signed.{ltZ}
 use Rattle.rules.specs.Log.{if_then_else_}

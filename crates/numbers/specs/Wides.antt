@@ -1,6 +1,5 @@
 -- 128-bit numbers as two halves.
 use Prim.Native.Nat.{ℕ, _+_, _*_, _/_, _%_, _^_}
-use mathlib.Core.Bool.{Bool}
 use lib.Dec.{ltb}
 use Rattle.rules.specs.Log.{if_then_else_}
 use Rattle.numbers.specs.declared.wide.Wide.{Wide}

@@ -1,12 +1,12 @@
 -- The ledger's state passes `restore`'s test: 11 never comes of a book that began zeroed.
-use Prim.Native.Nat.{ℕ, zero, suc, _+_, _*_, _^_, _<_, _≤_}
-use mathlib.Core.Path.{_≡_, refl, sym, ap, ap₂, _∙_}
-use mathlib.Core.Bool.{Bool, true, false, not, _&&_, _||_, Bool·beq}
+use Prim.Native.Nat.{ℕ, zero, suc, _+_, _^_}
+use mathlib.Core.Path.{_≡_, refl}
+use mathlib.Core.Bool.{Bool, true, false, _&&_}
 use mathlib.Core.Option.{Option, none, some}
-use mathlib.Core.List.{List, [], _∷_}
+use mathlib.Core.List.{[], _∷_}
 use native.Mathlib.Omega.{arith}
 use lib.IntN.{ℤ, pos}
-use lib.Signed.{ltZ, leZ}
+use lib.Signed.{ltZ}
 use lib.Dec.{ltb, leb, eqb}
 use lib.Pow.{pow-pos}
 use borrow.Author.Tests.{ltb-true, lt-ltb, le-leb, eq-eqb, ne-eqb, eqb-true, eqb-false}
@@ -20,9 +20,9 @@ use Rattle.rules.specs.Log.{Log, ε, _▹_, if_then_else_, maybe, size, 
 use Rattle.rules.specs.Answers.{final}
 use Rattle.rules.specs.Terms.{goodTerms, slots}
 use Rattle.rules.specs.Prints.{Print, goodPrint, eqZ}
-use Rattle.rules.specs.Taking.{Candidates, canonical, links, follows}
-use Rattle.rules.specs.State.{candidatesOf, partsOf, rising, restoreTests, goodState}
-use Rattle.rules.specs.Series.{Opening, Command, Open, Offer, Ask, Fix, Series, empty, live, fixed, decided}
+use Rattle.rules.specs.Taking.{canonical, links, follows}
+use Rattle.rules.specs.State.{partsOf, rising, goodState}
+use Rattle.rules.specs.Series.{Opening, Command, Series, empty, live, fixed, decided}
 use Rattle.rules.specs.Record.{candidatesFit}
 use Rattle.rules.specs.Ledger.{opening, Posting, postings, holder, chain, fallback, greatest, candidates, Freeze, freeze, takenPrints, since, ledger}
 

@@ -1,20 +1,20 @@
 -- Numbers in bytes: reading and writing undo each other. One law for every width.
-use Prim.Native.Nat.{ℕ, zero, suc, _+_, _*_, _-_, _/_, _%_, _^_, _<_, _≤_}
-use mathlib.Core.Path.{_≡_, refl, sym, ap, ap₂, _∙_}
-use mathlib.Core.Bool.{Bool, true, false, _&&_}
-use mathlib.Core.List.{List, [], _∷_, _++_}
+use Prim.Native.Nat.{ℕ, zero, suc, _+_, _*_, _-_, _/_, _%_, _^_, _<_}
+use mathlib.Core.Path.{_≡_, refl, ap}
+use mathlib.Core.Bool.{Bool, true, false}
+use mathlib.Core.List.{[], _∷_}
 use native.Mathlib.Omega.{arith}
 use native.Mathlib.Nat.{pow-suc}
-use lib.ListN.{length, take, drop}
+use lib.ListN.{length, take}
 use lib.IntN.{ℤ, pos, negsuc}
 use lib.Signed.{mag}
-use lib.Dec.{ltb, eqb}
+use lib.Dec.{ltb}
 use lib.Pow.{pow-pos}
-use borrow.Author.Tests.{ltb-true, ltb-false, lt-ltb, le-ltb}
+use borrow.Author.Tests.{ltb-true, lt-ltb, le-ltb}
 use Rattle.rules.proofs.Bools.{both}
 use Rattle.rules.proofs.Integers.{tests}
 use Rattle.rules.specs.Log.{if_then_else_}
-use Rattle.rules.specs.Bytes.{Bytes, areBytes, little, signed, unsignedAt, signedAt, bytes, word, signedBytes, fitsUnsigned, fitsSigned}
+use Rattle.rules.specs.Bytes.{Bytes, areBytes, little, signed, bytes, word, fitsUnsigned}
 
 -- ---- unsigned
 

@@ -1,10 +1,10 @@
 -- 01, "Fixings to hold by hand": P1 to P12, computed over the definitions.
 use Prim.Native.Nat.{ℕ, _-_, _^_}
 use mathlib.Core.Path.{_≡_, refl}
-use mathlib.Core.Bool.{Bool, true, false}
-use mathlib.Core.Option.{Option, none, some}
+use mathlib.Core.Bool.{true, false}
+use mathlib.Core.Option.{none, some}
 use mathlib.Core.List.{List, [], _∷_}
-use lib.IntN.{ℤ, pos, negℤ}
+use lib.IntN.{pos, negℤ}
 use Rattle.rules.specs.Log.{Log, ε, _▹_}
 use Rattle.rules.specs.Answers.{Result, ok, refused, Answer, Opened, Used, Wait, Refused}
 use Rattle.rules.specs.Terms.{goodTerms}
@@ -12,7 +12,7 @@ use Rattle.rules.specs.Prints.{newPrint, accept}
 use Rattle.rules.specs.Mean.{mean}
 use Rattle.rules.specs.Taking.{bit, canonical, links, qualifies, slotFor, printAnswer, place}
 use Rattle.rules.specs.Decision.{ones, decide}
-use Rattle.rules.specs.Series.{Opening, Command, Open, Offer, Ask, Fix, Series, empty, step, answer, after}
+use Rattle.rules.specs.Series.{Command, Open, Offer, Ask, Series, empty, step, answer, after}
 
 -- 01's journal's terms, with another tolerance, hard deadline and expiry
 abbrev like : ℕ → ℕ → ℕ → Command

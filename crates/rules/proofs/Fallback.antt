@@ -1,16 +1,15 @@
 -- One more taken print: the first print with the greatest qualifying pub.
-use mathlib.Core.Path.{_≡_, refl, sym, ap, _∙_}
+use mathlib.Core.Path.{_≡_, refl, sym, _∙_}
 use mathlib.Core.Bool.{Bool, true, false, not, _&&_, _||_}
 use mathlib.Core.Option.{Option, none, some}
-use lib.IntN.{ℤ, pos}
+use lib.IntN.{pos}
 use lib.Signed.{ltZ, leZ}
 use borrow.Author.Tests.{not-true}
 use Rattle.rules.proofs.Bools.{both, and-true, and-false, or-true, drop-last}
 use Rattle.rules.proofs.Integers.{le-lt-trans, le-trans, lt-le, lt-true, lt-false, le-refl}
 use Rattle.rules.proofs.Logs.{all-mono, first-none, first-some, first-ext, first-stronger, orElse-none}
-use Rattle.rules.specs.Log.{Log, ε, _▹_, if_then_else_, maybe, first, all, _orElse_}
-use Rattle.rules.specs.Prints.{Print}
-use Rattle.rules.specs.Taking.{Candidates, isFallback}
+use Rattle.rules.specs.Log.{Log, ε, _▹_, if_then_else_, maybe, first, all}
+use Rattle.rules.specs.Taking.{isFallback}
 use Rattle.rules.specs.Series.{Opening}
 use Rattle.rules.specs.Ledger.{Posting, candidates, qualified, greatest, fallback}
 

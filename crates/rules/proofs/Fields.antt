@@ -1,32 +1,31 @@
 -- Every number of the ledger's record fits its field.
-use Prim.Native.Nat.{ℕ, zero, suc, _+_, _*_, _^_, _<_, _≤_}
+use Prim.Native.Nat.{ℕ, _*_, _^_, _<_, _≤_}
 use mathlib.Core.Path.{_≡_, refl, sym, ap, _∙_}
-use mathlib.Core.Bool.{Bool, true, false, not, _&&_, _||_}
+use mathlib.Core.Bool.{Bool, true, false, not, _||_}
 use mathlib.Core.Option.{Option, none, some}
 use mathlib.Core.List.{List, [], _∷_}
 use native.Mathlib.Omega.{arith}
 use native.Mathlib.Nat.{lt-of-le-of-lt, lt-of-lt-of-le, le-of-suc-le-suc}
-use lib.IntN.{ℤ, pos, negsuc, natAbs}
-use lib.Signed.{mag, natAbs-le, ltZ}
+use lib.IntN.{ℤ, pos}
 use lib.Dec.{ltb, leb, eqb, lit<}
 use lib.Pow.{pow-mono}
 use borrow.Author.Tests.{ltb-true, lt-ltb, leb-true, leb-false, le-leb, eq-eqb}
-use Rattle.rules.proofs.Bools.{both, test, every-at}
+use Rattle.rules.proofs.Bools.{both, every-at}
 use Rattle.rules.proofs.Integers.{tests}
 use Rattle.rules.proofs.Logs.{all-mono, first-all, last-all, lastAt-all, size-map, all-map}
 use Rattle.rules.proofs.Sums.{Σ<-ext, Σ<-le, below}
 use Rattle.rules.proofs.Place.{held, held-small, held-pow, small, sum-low}
 use Rattle.rules.proofs.Series.{accept-facts, accept-small, taken-all, opening-good, no-freeze}
 use Rattle.rules.proofs.Prices.{size-upTo, FairAnswer, opened, used, wait, fair, void, refusal, decide-fair}
-use Rattle.rules.specs.Log.{Log, ε, _▹_, if_then_else_, _orElse_, maybe, size, put, all, first, last, lastAt, map, Σ<, every, upTo}
-use Rattle.rules.specs.Bytes.{fitsUnsigned, fitsSigned, fits}
-use Rattle.rules.specs.Answers.{Result, ok, refused, Method, number, Answer, Settle, final}
+use Rattle.rules.specs.Log.{Log, ε, _▹_, if_then_else_, _orElse_, maybe, size, put, all, last, lastAt, map, every, upTo}
+use Rattle.rules.specs.Bytes.{fitsUnsigned, fits}
+use Rattle.rules.specs.Answers.{ok, refused, Method, number, Answer, final}
 use Rattle.rules.specs.Terms.{goodTerms, termsTests, slots, goodExponent}
 use Rattle.rules.specs.Prints.{Print, Quote, accept}
 use Rattle.rules.specs.Mean.{rounded, numerator, denominator, mean}
-use Rattle.rules.specs.Taking.{Candidates, canonical, links, follows}
-use Rattle.rules.specs.Series.{Opening, Command, Open, Offer, Ask, Fix, Series, empty, live, fixed, decided}
-use Rattle.rules.specs.Record.{openingFields, candidatesFields, openingFits, candidatesFit, outcomeFits, seriesFits}
+use Rattle.rules.specs.Taking.{links, follows}
+use Rattle.rules.specs.Series.{Opening, Command, Open, Offer, Ask, Fix, empty, decided}
+use Rattle.rules.specs.Record.{openingFits, candidatesFit, outcomeFits, seriesFits}
 use Rattle.rules.specs.Ledger.{goodOpen, opening, Posting, postings, holder, chain, fallback, greatest, fillsSlot, candidates, pricesFor, Freeze, decidedOn, freezes, freeze, takenPrints, since, ledger}
 
 -- ---- prints and commands in range

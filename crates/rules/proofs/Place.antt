@@ -1,5 +1,5 @@
 -- One more taken print: the ledger's candidates are those that the placing rule leaves.
-use Prim.Native.Nat.{ℕ, zero, suc, _+_, _*_, _/_, _%_, _^_, _<_, _≤_}
+use Prim.Native.Nat.{ℕ, _+_, _*_, _^_, _<_, _≤_}
 use mathlib.Core.Path.{_≡_, refl, sym, ap, _∙_}
 use mathlib.Core.Bool.{Bool, true, false, not, _&&_, _||_}
 use mathlib.Core.Option.{Option, none, some}
@@ -15,7 +15,7 @@ use Rattle.rules.proofs.Integers.{tests, sum-law, le-yes, lt-yes}
 use Rattle.rules.proofs.Sums.{Σ<-ext, Σ<-zero, Σ<-one, Σ<-le, find-ext, find-none, find-some, digit}
 use Rattle.rules.proofs.Logs.{first-all}
 use Rattle.rules.proofs.Fallback.{fallback-more}
-use Rattle.rules.specs.Log.{Log, ε, _▹_, if_then_else_, isSome, maybe, size, first, lastAt, last, all, map, find, Σ<, _orElse_}
+use Rattle.rules.specs.Log.{Log, ε, _▹_, if_then_else_, isSome, maybe, lastAt, last, all, map, find, Σ<, _orElse_}
 use Rattle.rules.specs.Terms.{Terms, goodTerms, termsTests, slots}
 use Rattle.rules.specs.Prints.{Print}
 use Rattle.rules.specs.Taking.{Candidates, canonicalTests, canonical, links, bit, slotFor, isLink, isFallback, usable, sumFits, place}

@@ -1,28 +1,26 @@
 -- A Settle's price is the mean of the prices that its method takes from the ledger, and samples is how many these are.
 use Prim.Native.Nat.{ℕ, zero, suc, _+_, _*_, _/_, _%_, _^_, _<_, _≤_}
-use mathlib.Core.Path.{_≡_, refl, sym, ap, _∙_}
-use mathlib.Core.Bool.{Bool, true, false, not, _&&_, _||_}
+use mathlib.Core.Path.{_≡_, refl, sym, _∙_}
+use mathlib.Core.Bool.{Bool, true, false, not, _&&_}
 use mathlib.Core.Option.{Option, none, some}
 use native.Mathlib.Omega.{arith}
-use lib.IntN.{ℤ, pos, _+ℤ_}
-use lib.Signed.{ltZ}
-use lib.Dec.{ltb, leb, eqb}
-use borrow.Author.Tests.{leb-true, leb-false, ltb-true}
+use lib.IntN.{ℤ}
+use lib.Dec.{ltb}
+use borrow.Author.Tests.{leb-true}
 use Rattle.rules.proofs.Bools.{every-at}
 use Rattle.rules.proofs.Logs.{size-map}
 use Rattle.rules.proofs.Sums.{Σ<-ext, Σ<-stop, digit, digit-above}
 use Rattle.rules.proofs.Place.{held, held-small, held-pow}
 use Rattle.rules.proofs.Decision.{decide-each}
 use Rattle.rules.proofs.Series.{opening-good}
-use Rattle.rules.specs.Log.{Log, ε, _▹_, if_then_else_, maybe, size, put, map, total, Σ<, upTo}
-use Rattle.rules.specs.Bytes.{fits}
+use Rattle.rules.specs.Log.{Log, ε, if_then_else_, maybe, size, put, map, total, Σ<, upTo}
 use Rattle.rules.specs.Answers.{Result, ok, refused, Method, number, Answer, Opened, Used, Wait, Settle, Refused, final, isUsed}
-use Rattle.rules.specs.Terms.{slots, goodTerms, termsTests, goodExponent}
+use Rattle.rules.specs.Terms.{slots, goodTerms, termsTests}
 use Rattle.rules.specs.Prints.{Print, accept}
-use Rattle.rules.specs.Mean.{rounded, numerator, denominator, mean}
-use Rattle.rules.specs.Taking.{Candidates, slotFor, isLink, isFallback, usable, timesFit, sumFits, printAnswer}
-use Rattle.rules.specs.Decision.{ones, maxZ, settleAt, from, settle, H, decide}
-use Rattle.rules.specs.Series.{Opening, Command, Open, Offer, Ask, Fix, Series, live, fixed, keeps, leaves, decided, offered, waiting, fixing, step, answerOf, answer}
+use Rattle.rules.specs.Mean.{mean}
+use Rattle.rules.specs.Taking.{Candidates, usable, timesFit, sumFits, printAnswer}
+use Rattle.rules.specs.Decision.{ones, settleAt, settle}
+use Rattle.rules.specs.Series.{Opening, Command, Open, Offer, Ask, Fix, Series, fixed, keeps, leaves, decided, offered, waiting, fixing, step, answerOf, answer}
 use Rattle.rules.specs.Ledger.{Posting, opening, candidates, holder, chain, fallback, pricesFor, FairSettle, Freeze, freeze, takenPrints, since, ledger}
 
 -- an answer that is no Settle, or a fair one

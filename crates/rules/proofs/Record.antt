@@ -1,14 +1,14 @@
 -- What is written into a record is read back from it, and the ledger's record is acceptable.
-use Prim.Native.Nat.{ℕ, zero, suc, _+_, _*_, _-_, _/_, _%_, _^_, _<_, _≤_}
-use mathlib.Core.Path.{_≡_, refl, sym, ap, ap₂, _∙_}
-use mathlib.Core.Bool.{Bool, true, false, not, _&&_, _||_}
+use Prim.Native.Nat.{ℕ, _+_, _*_, _/_, _%_, _^_}
+use mathlib.Core.Path.{_≡_, refl, ap, _∙_}
+use mathlib.Core.Bool.{Bool, true, false, _&&_}
 use mathlib.Core.Option.{Option, none, some}
-use mathlib.Core.List.{List, [], _∷_, _++_}
+use mathlib.Core.List.{List, [], _∷_}
 use native.Mathlib.Omega.{arith}
 use native.Mathlib.Nat.{div-add-mod', mod-lt}
-use lib.IntN.{ℤ, pos, negsuc}
+use lib.IntN.{ℤ, pos}
 use lib.Signed.{mag}
-use lib.Dec.{ltb, leb, eqb, lit<}
+use lib.Dec.{ltb, eqb, lit<}
 use lib.Pow.{shr-lt}
 use borrow.Author.Tests.{ltb-true, lt-ltb, eq-eqb, ne-eqb}
 use Rattle.rules.proofs.Bools.{both, test, every-at}
@@ -19,12 +19,12 @@ use Rattle.rules.proofs.Fields.{commandFits, ledger-fits}
 use Rattle.rules.proofs.Acceptable.{sound, ledger-sound}
 use Rattle.rules.specs.Log.{Log, ε, _▹_, if_then_else_, maybe, size, all, nth, every}
 use Rattle.rules.specs.Bytes.{Bytes, zeros, concat, little, signed, unsignedAt, signedAt, bytes, word, signedBytes, fitsUnsigned, fits}
-use Rattle.rules.specs.Answers.{Result, ok, refused, Method, number, method, Answer, Opened, Used, Wait, Settle, Refused, final}
+use Rattle.rules.specs.Answers.{ok, Method, number, method, Answer, Opened, Used, Wait, Settle, Refused, final}
 use Rattle.rules.specs.Terms.{goodTerms}
 use Rattle.rules.specs.Taking.{Candidates}
-use Rattle.rules.specs.State.{Parts, candidatesOf, partsOf, goodState}
+use Rattle.rules.specs.State.{candidatesOf, partsOf, goodState}
 use Rattle.rules.specs.Series.{Opening, Command, Series, empty, live, fixed, decided}
-use Rattle.rules.specs.Record.{methodOf, samplesOf, priceOf, fields, bytesOf, outcome, openingIn, partsIn, tagIn, samplesIn, methodIn, fixingTimeIn, priceIn, seriesIn, bodyTests, openTests, fixedTests, acceptable, stored, openingFields, candidatesFields, openingFits, candidatesFit, outcomeFits, seriesFits}
+use Rattle.rules.specs.Record.{methodOf, samplesOf, priceOf, fields, bytesOf, outcome, openingIn, partsIn, tagIn, samplesIn, methodIn, fixingTimeIn, priceIn, seriesIn, bodyTests, acceptable, stored, openingFields, openingFits, candidatesFit, outcomeFits, seriesFits}
 use Rattle.rules.specs.Ledger.{opening, takenPrints, candidates, Freeze, freeze, since, ledger}
 
 -- ---- single fields

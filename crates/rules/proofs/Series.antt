@@ -1,5 +1,5 @@
 -- One series: each command leaves what the ledger reads off the commands so far.
-use Prim.Native.Nat.{ℕ, zero, suc, _+_, _*_, _^_}
+use Prim.Native.Nat.{ℕ, _*_, _^_}
 use mathlib.Core.Path.{_≡_, refl, sym, ap, _∙_}
 use mathlib.Core.Bool.{Bool, true, false, not, _&&_, _||_}
 use mathlib.Core.Option.{Option, none, some}
@@ -9,7 +9,7 @@ use lib.Dec.{ltb, leb, eqb}
 use borrow.Author.Tests.{ltb-true, le-leb, eqb-false, lt-ltb}
 use native.Mathlib.Omega.{arith}
 use Rattle.rules.proofs.Bools.{both}
-use Rattle.rules.proofs.Integers.{tests, lt-le-trans, le-false, lt-false}
+use Rattle.rules.proofs.Integers.{lt-le-trans, le-false, lt-false}
 use Rattle.rules.proofs.Logs.{all-put}
 use Rattle.rules.proofs.Place.{candidates-none, candidates-more, place-unusable, small, sum-fits}
 use Rattle.rules.specs.Log.{Log, ε, _▹_, if_then_else_, _orElse_, maybe, size, put, all}
@@ -18,9 +18,8 @@ use Rattle.rules.specs.Answers.{Result, ok, refused, Answer, Used, Refus
 use Rattle.rules.specs.Terms.{Terms, goodTerms}
 use Rattle.rules.specs.Prints.{Print, Quote, eqZ, goodPrint, newPrint, accept}
 use Rattle.rules.specs.Taking.{Candidates, slotFor, isLink, isFallback, usable, timesFit, sumFits, printAnswer, place}
-use Rattle.rules.specs.Decision.{decide}
-use Rattle.rules.specs.Series.{Opening, Command, Open, Offer, Ask, Fix, Series, empty, live, fixed, noCandidates, keeps, leaves, decided, offered, fixing, waiting, step, changed, answer, after}
-use Rattle.rules.specs.Ledger.{goodOpen, opening, Posting, accepted, taken, postings, candidates, Freeze, decidedOn, freezes, freeze, takenPrints, since, ledger}
+use Rattle.rules.specs.Series.{Opening, Command, Open, Offer, Ask, Fix, empty, live, fixed, noCandidates, keeps, leaves, decided, offered, waiting, step, changed, after}
+use Rattle.rules.specs.Ledger.{goodOpen, opening, Posting, accepted, taken, postings, candidates, Freeze, freezes, freeze, takenPrints, since, ledger}
 
 -- ---- what an accepted print is
 

@@ -1,20 +1,19 @@
 -- Candidates and the parts that they are stored as.
-use Prim.Native.Nat.{ℕ, zero, suc, _+_, _<_, _≤_}
-use mathlib.Core.Path.{_≡_, refl, sym, ap, _∙_}
-use mathlib.Core.Bool.{Bool, true, false, not, _&&_, _||_}
-use mathlib.Core.List.{List, [], _∷_}
+use Prim.Native.Nat.{ℕ, zero, suc, _<_, _≤_}
+use mathlib.Core.Path.{_≡_, refl, sym}
+use mathlib.Core.Bool.{Bool, true, false, _&&_, _||_}
 use native.Mathlib.Omega.{arith}
 use lib.ListN.{getD}
-use lib.IntN.{ℤ, pos}
-use lib.Dec.{ltb, leb, eqb}
+use lib.IntN.{pos}
+use lib.Dec.{ltb, eqb}
 use borrow.Author.Tests.{leb-true, eqb-true}
 use Rattle.rules.proofs.Bools.{test, every-at}
 use Rattle.rules.proofs.Integers.{tests}
 use Rattle.rules.proofs.Logs.{front-nth, nth-after}
-use Rattle.rules.specs.Log.{Log, size, nth, front, every}
+use Rattle.rules.specs.Log.{Log, size, nth, front}
 use Rattle.rules.specs.Prints.{eqZ}
 use Rattle.rules.specs.Taking.{Candidates}
-use Rattle.rules.specs.State.{Parts, candidatesOf, five, partsOf, zeroAfter}
+use Rattle.rules.specs.State.{candidatesOf, five, partsOf, zeroAfter}
 use Rattle.rules.specs.Record.{candidatesFields, candidatesFit}
 
 pub five-at : {A : Type 0} (d : A) (l : Log A) (j : ℕ) → j < 5 → getD (five d l) j d ≡ nth d l j

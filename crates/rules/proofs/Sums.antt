@@ -1,16 +1,15 @@
 -- Sums over i < n, the first i < n, and the binary digits of a sum.
 use Prim.Native.Nat.{ℕ, zero, suc, _+_, _*_, _-_, _/_, _%_, _^_, _<_, _≤_}
 use mathlib.Core.Path.{_≡_, refl, sym, ap, ap₂, _∙_}
-use mathlib.Core.Bool.{Bool, true, false, not, _&&_, _||_}
+use mathlib.Core.Bool.{Bool, true, false}
 use mathlib.Core.Option.{Option, none, some}
 use native.Mathlib.Omega.{arith}
-use native.Mathlib.Nat.{pow-suc, mul-assoc, one-mul, suc-mul, mul-le-mul-right, add-mul-div-right, add-mul-mod-self-right, div-eq-of-lt, mod-eq-of-lt, lt-of-lt-of-le}
+use native.Mathlib.Nat.{pow-suc, mul-assoc, one-mul, suc-mul, mul-le-mul-right, add-mul-div-right, add-mul-mod-self-right, div-eq-of-lt, lt-of-lt-of-le}
 use lib.Pow.{pow-pos, pow-add, pow-mono}
 use lib.Arith.{lt-of-le-ne}
 use borrow.Author.Tests.{eqb-true, eqb-false}
-use lib.Dec.{ltb, leb, eqb}
+use lib.Dec.{eqb}
 use Rattle.rules.specs.Log.{if_then_else_, find, Σ<, _orElse_}
-use Rattle.rules.proofs.Integers.{tests}
 
 -- ---- sums
 

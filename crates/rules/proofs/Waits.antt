@@ -1,7 +1,7 @@
 -- A decision asked at any time, and then only when its Waits say: at most three Waits, and then one answer for good.
-use Prim.Native.Nat.{ℕ, zero, suc, _^_}
-use mathlib.Core.Path.{_≡_, refl, sym, ap, _∙_}
-use mathlib.Core.Bool.{Bool, true, false, not, _&&_, _||_}
+use Prim.Native.Nat.{ℕ, suc, _^_}
+use mathlib.Core.Path.{_≡_, refl, _∙_}
+use mathlib.Core.Bool.{Bool, true, false, _||_}
 use lib.IntN.{ℤ, pos, _+ℤ_}
 use lib.Signed.{ltZ, leZ}
 use lib.Dec.{ltb, leb, eqb}
@@ -9,8 +9,8 @@ use Rattle.rules.proofs.Bools.{every-at}
 use Rattle.rules.proofs.Integers.{le-refl, le-trans, lt-le, le-true, lt-false, le-lt-trans}
 use Rattle.rules.specs.Log.{if_then_else_, size, total}
 use Rattle.rules.specs.Bytes.{fits}
-use Rattle.rules.specs.Answers.{Result, ok, refused, Method, Answer, Wait, Settle, Refused, settled}
-use Rattle.rules.specs.Terms.{Terms, slots, goodTerms, termsTests, goodExponent}
+use Rattle.rules.specs.Answers.{ok, refused, Method, Answer, Wait, Refused, settled}
+use Rattle.rules.specs.Terms.{Terms, slots, goodTerms, termsTests}
 use Rattle.rules.specs.Mean.{rounded, numerator, denominator, mean}
 use Rattle.rules.specs.Taking.{Candidates}
 use Rattle.rules.specs.Decision.{ones, maxZ, settleAt, from, settle, decide}

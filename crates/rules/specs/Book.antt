@@ -1,6 +1,6 @@
 -- The book: 64 records. What an entry is answered on a book of any bytes, and the book after it.
 use Prim.Native.Nat.{ℕ, _+_, _*_}
-use mathlib.Core.List.{List, _++_}
+use mathlib.Core.List.{_++_}
 use lib.ListN.{length, take, drop}
 use lib.Dec.{eqb}
 use Rattle.rules.specs.Log.{Log, ε, _▹_, if_then_else_, maybe}

@@ -1,6 +1,6 @@
 -- Numbers in bytes. 01: "all fields are little-endian, signed ones in two's complement."
 use Prim.Native.Nat.{ℕ, zero, suc, _+_, _*_, _-_, _/_, _%_, _^_}
-use mathlib.Core.Bool.{Bool, true, false, _&&_}
+use mathlib.Core.Bool.{Bool, true, _&&_}
 use mathlib.Core.List.{List, [], _∷_, _++_}
 use lib.ListN.{take, drop, replicate}
 use lib.IntN.{ℤ, pos, negsuc}

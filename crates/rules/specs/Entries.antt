@@ -1,6 +1,6 @@
 -- 01, "Commands": an entry of the list is any bytes. It is a command of a series, or none with its refusal.
 use Prim.Native.Nat.{ℕ}
-use mathlib.Core.List.{List, [], _∷_}
+use mathlib.Core.List.{[], _∷_}
 use lib.ListN.{length}
 use lib.IntN.{ℤ}
 use lib.Dec.{ltb, eqb}

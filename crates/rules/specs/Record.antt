@@ -1,5 +1,5 @@
 -- 01, "Record (200 bytes; book = 64 of them)".
-use Prim.Native.Nat.{ℕ, zero, _+_, _*_, _/_, _%_, _^_}
+use Prim.Native.Nat.{ℕ, _+_, _*_, _/_, _%_, _^_}
 use mathlib.Core.Bool.{Bool, true, false, _&&_}
 use mathlib.Core.List.{List, [], _∷_, _++_}
 use lib.IntN.{ℤ, pos}

@@ -1,6 +1,5 @@
 -- 01, "Commands": what a command answers on a series, and the series after it.
 use Prim.Native.Nat.{ℕ}
-use mathlib.Core.Bool.{Bool, true, false}
 use mathlib.Core.Option.{Option, none, some}
 use lib.IntN.{ℤ, pos}
 use Rattle.rules.specs.Log.{ε, if_then_else_, maybe}

@@ -1,10 +1,12 @@
 // The mean of prices, in 64-bit arithmetic: a product by a power of ten in halves, and a long
 // division with two digits of 32 bits.
 ghost use mathlib.Core.Path.{_≡_};
-ghost use Prim.Native.Nat.{ℕ, _+_, _*_, _/_, _%_, _^_, _≤_, _<_};
+ghost use Prim.Native.Nat.{_+_, _*_, _/_, _%_, _^_, _≤_, _<_};
 ghost use Rattle.rules.specs.Mean.{rounded, mean};
 ghost use Rattle.metalbook_core.specs.Prices.{priceOf, priced};
 use crate::error::CoreError;
+use crate::settlement::params::MAX_EXPO;
+use crate::settlement::params::MIN_EXPO;
 use crate::units::StrikeUsd;
 
 pub enum PriceResult {
@@ -79,10 +81,10 @@ fn power(n: u8) -> u64
 pub fn to_atoms(sum_low: u64, sum_high: u64, count: u32, expo: i8) -> PriceResult
     ensures { λ r. ⌜ priceOf r ≡ mean («sum_high» * 2 ^ 64 + «sum_low») count expo ⌝ }
 {
-    if expo < -12 {
+    if expo < MIN_EXPO {
         return PriceResult::Err(CoreError::InvalidOracleParams);
     }
-    if 0 < expo {
+    if MAX_EXPO < expo {
         return PriceResult::Err(CoreError::InvalidOracleParams);
     }
     if count == 0 {

@@ -1,12 +1,22 @@
 // The oracle terms that a series copies at its opening.
 ghost use mathlib.Core.Path.{_≡_};
-ghost use mathlib.Core.Bool.{true};
 ghost use Prim.Native.Nat.{_/_, _<_};
 ghost use lib.ListN.{take, drop};
 ghost use Rattle.rules.specs.Log.{every};
 ghost use Rattle.rules.specs.Terms.{termsTests, goodTerms, newTerms, slots};
 ghost use Rattle.metalbook_core.specs.Params.{termsOf, given, paramsOf};
 use crate::error::CoreError;
+
+// Largest number of window slots: the slot bitmap is a u32.
+pub const MAX_SLOTS: u32 = 32;
+
+// Capacity of the next-print chain.
+pub const MAX_NEXT_PRINTS: u8 = 5;
+
+// Smallest and largest accepted exponent.
+pub const MIN_EXPO: i8 = -12;
+
+pub const MAX_EXPO: i8 = 0;
 
 pub struct OracleParams {
     pub window_s: u32,
@@ -41,7 +51,7 @@ fn good_window(p: OracleParams) -> bool
     if slots < 1 {
         return false;
     }
-    if 32 < slots {
+    if MAX_SLOTS < slots {
         return false;
     }
     (p.slot_tolerance_s as u32) < slot
@@ -63,7 +73,7 @@ fn good_counts(p: OracleParams) -> bool
     if k < 1 {
         return false;
     }
-    k <= 5
+    k <= MAX_NEXT_PRINTS
 }
 
 // The delays, and the exponent.
@@ -80,10 +90,10 @@ fn good_delays(p: OracleParams) -> bool
         return false;
     }
     let e = p.expo;
-    if e < -12 {
+    if e < MIN_EXPO {
         return false;
     }
-    e <= 0
+    e <= MAX_EXPO
 }
 
 impl OracleParams {

@@ -11,6 +11,8 @@ ghost use Rattle.rules.specs.Decision.{ones};
 ghost use Rattle.metalbook_core.specs.Params.{termsOf};
 ghost use Rattle.metalbook_core.specs.States.{stateOf, storedOf, restoredOf, valueOr, linkPlace, allPlaces};
 use crate::error::CoreError;
+use crate::settlement::params::MAX_NEXT_PRINTS;
+use crate::settlement::params::MAX_SLOTS;
 use crate::settlement::params::OracleParams;
 
 // The 128-bit sum of the slots' prices stands in two halves.
@@ -58,7 +60,7 @@ pub struct Restored {
 fn bits_ok(bits: u32, slots: u32) -> bool
     ensures { λ r. ⌜ r ≡ ltb bits (2 ^ slots) ⌝ }
 {
-    if 32 <= slots {
+    if MAX_SLOTS <= slots {
         return true;
     }
     let above = bits >> slots;
@@ -184,7 +186,7 @@ impl SettlementState {
         if params.k_next_print < len {
             return false;
         }
-        if 5 < len {
+        if MAX_NEXT_PRINTS < len {
             return false;
         }
         let times = self.next_times;

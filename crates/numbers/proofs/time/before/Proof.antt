@@ -1,12 +1,12 @@
 use Prim.Native.Nat.{ℕ, _<_, _^_}
 use borrow.Author.Needs.{needs}
 use native.Mathlib.Omega.{arith}
-use lib.IntN.{ℤ, pos, negsuc, _+ℤ_, _-ℤ_}
+use lib.IntN.{pos, negsuc, _+ℤ_, _-ℤ_}
 use mir.Syntax.{w64}
 use mir.Val.{SFits}
 use mir.Facts.{toZ-ofZ, toZ-pos}
-use Rattle.rules.proofs.Integers.{up, dn, apart, sum-law, difference-law, lt-yes, lt-no, le-yes, le-no, abs-is}
-use Rattle.numbers.proofs.Ranges.{in-64, fits-64, fits-yes, over-64, under-64, cast-64}
+use Rattle.rules.proofs.Integers.{sum-law, difference-law, lt-yes, lt-no}
+use Rattle.numbers.proofs.Ranges.{in-64, fits-64, fits-yes, under-64}
 use Rattle.numbers.proofs.time.before.Statement.{statement}
 use Rattle.numbers.proofs.time.before.Tie as tie
 

@@ -1,5 +1,4 @@
 use mir.Facts.{toZ-ofZ}
-use mathlib.Core.Path.{_≡_, refl}
 use Rattle.numbers.proofs.time.later.Statement.{statement}
 use Rattle.numbers.proofs.time.later.Tie as tie
 

@@ -1,14 +1,14 @@
-use Prim.Native.Nat.{ℕ, _+_, _<_, _≤_, _^_}
-use mathlib.Core.Path.{_≡_, refl, sym, ap, _∙_}
+use Prim.Native.Nat.{_+_, _<_, _^_}
+use mathlib.Core.Path.{_≡_}
 use mathlib.Core.Bool.{true, false}
 use native.Mathlib.Omega.{arith}
-use lib.IntN.{ℤ, pos, negsuc, natAbs, _+ℤ_, _-ℤ_}
+use lib.IntN.{ℤ, pos, negsuc, natAbs, _-ℤ_}
 use lib.Signed.{ltZ, leZ}
 use mir.Syntax.{w64}
 use mir.Val.{SFits}
 use mir.Facts.{toZ-ofZ}
-use Rattle.rules.proofs.Integers.{up, dn, apart, sum-law, difference-law, lt-yes, lt-no, le-yes, le-no, abs-is}
-use Rattle.numbers.proofs.Ranges.{in-64, fits-64, fits-yes, over-64, under-64, cast-64}
+use Rattle.rules.proofs.Integers.{apart, difference-law, lt-yes, lt-no, le-yes, le-no, abs-is}
+use Rattle.numbers.proofs.Ranges.{in-64, fits-64, cast-64}
 use Rattle.numbers.proofs.time.span.Statement.{statement}
 use Rattle.numbers.proofs.time.span.Tie as tie
 

@@ -1,13 +1,11 @@
 use Prim.Native.Nat.{_+_, _*_, _-_, _^_, _<_}
-use mathlib.Core.Path.{_≡_, sym, _∙_}
+use mathlib.Core.Path.{_≡_}
 use native.Mathlib.Omega.{arith}
 use borrow.Author.Needs.{needs}
 use Rattle.numbers.specs.Wides.{wideOf, sumOf}
 use Rattle.numbers.proofs.Wides.{upper, lower, sum-fits, sum-over}
 use Rattle.numbers.proofs.wide.plus.Statement.{statement}
 use Rattle.numbers.proofs.wide.plus.Tie as tie
-use Rattle.numbers.proofs.wide.plus.Reads as reads
-use Rattle.numbers.proofs.wide.plus.Lts as lts
 
 sub-room : tie.Need-sub-room
 sub-room c = search needs

@@ -1,8 +1,8 @@
-use Prim.Native.Nat.{ℕ, _+_, _*_, _/_, _%_, _≤_, _<_, _^_}
-use mathlib.Core.Path.{_≡_, refl, sym, ap, _∙_}
+use Prim.Native.Nat.{ℕ, _+_, _*_, _/_, _%_, _<_, _^_}
+use mathlib.Core.Path.{_≡_, sym, ap, _∙_}
 use native.Mathlib.Omega.{arith}
 use native.Mathlib.Nat.{mod-lt}
-use Rattle.metalbook_core.proofs.Division.{step, digit-below, quotient-below}
+use Rattle.metalbook_core.proofs.Division.{step, quotient-below}
 use borrow.Author.Needs.{needs}
 use Rattle.metalbook_core.proofs.settlement.mean.narrow.Statement.{statement}
 use Rattle.metalbook_core.proofs.settlement.mean.narrow.Tie as tie

@@ -1,5 +1,4 @@
-use Prim.Native.Nat.{ℕ, _+_, _*_, _/_, _%_, _≤_, _<_, _^_}
-use mathlib.Core.Path.{_≡_, refl, sym, ap, _∙_}
+use mathlib.Core.Path.{_≡_}
 use native.Mathlib.Omega.{arith}
 use Rattle.metalbook_core.proofs.settlement.mean.power.Statement.{statement}
 use Rattle.metalbook_core.proofs.settlement.mean.power.Tie as tie

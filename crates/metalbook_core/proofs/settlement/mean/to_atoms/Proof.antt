@@ -1,18 +1,16 @@
-use Prim.Native.Nat.{ℕ, _+_, _*_, _≤_, _<_, _^_}
-use mathlib.Core.Path.{_≡_, refl, sym, ap, _∙_}
+use Prim.Native.Nat.{ℕ, _+_, _*_, _≤_, _^_}
+use mathlib.Core.Path.{_≡_, refl, ap, _∙_}
 use mathlib.Core.Bool.{true, false}
 use native.Mathlib.Omega.{arith}
-use native.Mathlib.Nat.{mul-one}
 use borrow.Author.Tests.{eq-eqb, ne-eqb}
 use lib.Dec.{T}
 use lib.IntN.{ℤ, pos, negsuc, natAbs, _+ℤ_, _-ℤ_}
-use lib.Signed.{ltZ, leZ, nonNeg}
+use lib.Signed.{ltZ, nonNeg}
 use mir.Syntax.{w8}
 use mir.Val.{Fits, SFits}
 use mir.Facts.{toZ-ofZ}
 use Rattle.rules.proofs.Integers.{up, dn, apart, sum-law, difference-law, lt-yes, lt-no, lt-true, lt-false, abs-is}
 use Rattle.numbers.proofs.Ranges.{in-range, fits-in, cast-in}
-use Rattle.rules.specs.Answers.{Result}
 use Rattle.rules.specs.Mean.{above, below, rounded, mean}
 use Rattle.metalbook_core.specs.Prices.{priced}
 use Rattle.metalbook_core.proofs.settlement.mean.to_atoms.Statement.{statement}

@@ -1,15 +1,8 @@
-use Prim.Native.Nat.{ℕ, _+_, _*_, _/_, _%_, _≤_, _<_, _^_}
-use mathlib.Core.Path.{_≡_, refl, sym, ap, _∙_}
-use mathlib.Core.Bool.{Bool, true, false, _&&_}
+use Prim.Native.Nat.{_/_, _%_}
 use native.Mathlib.Omega.{arith}
 use borrow.Author.Tests.{lt-ltb, le-ltb, le-leb, lt-leb, eq-eqb, ne-eqb}
-use lib.IntN.{ℤ, pos, negsuc}
-use mir.Syntax.{w8, w16, w32, w64}
-use mir.Val.{SFits}
-use mir.Facts.{toZ-ofZ}
 use Rattle.metalbook_core.specs.Params.{termsOf}
 use Rattle.rules.proofs.Bools.{and-true}
-use Rattle.rules.proofs.Integers.{lt-true, lt-false}
 use borrow.Author.Needs.{needs}
 use Rattle.metalbook_core.proofs.settlement.params.good_window.Statement.{statement}
 use Rattle.metalbook_core.proofs.settlement.params.good_window.Tie as tie

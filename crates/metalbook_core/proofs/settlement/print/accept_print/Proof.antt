@@ -1,9 +1,9 @@
 use mathlib.Core.Path.{_≡_, refl, sym, ap, _∙_}
 use mathlib.Core.Bool.{Bool, true, false, _&&_}
 use native.Mathlib.Omega.{arith}
-use lib.IntN.{ℤ, pos, natAbs}
+use lib.IntN.{ℤ, pos}
 use lib.Signed.{leZ}
-use mir.Syntax.{w32, w64}
+use mir.Syntax.{w32}
 use mir.Val.{SFits, toZ, ofZ}
 use mir.Facts.{toZ-ofZ, sfits-widen}
 use borrow.Author.Needs.{needs}
@@ -12,8 +12,6 @@ use Rattle.rules.proofs.Integers.{apart, abs-is, le-no, le-refl, both-le}
 use Rattle.numbers.proofs.Ranges.{in-64, cast-64}
 use Rattle.metalbook_core.proofs.settlement.print.accept_print.Statement.{statement}
 use Rattle.metalbook_core.proofs.settlement.print.accept_print.Tie as tie
-use Rattle.metalbook_core.proofs.settlement.print.accept_print.Reads as reads
-use Rattle.metalbook_core.proofs.settlement.print.accept_print.Lts as lts
 
 returns : tie.Need-returns
 unfolding accept

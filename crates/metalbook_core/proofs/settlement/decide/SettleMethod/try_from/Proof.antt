@@ -1,8 +1,6 @@
 use borrow.Author.Tests.{ne-eqb}
 use Rattle.rules.specs.Answers.{method}
-use Rattle.metalbook_core.proofs.settlement.decide.SettleMethod.try_from.Statement.{
-  statement,
-}
+use Rattle.metalbook_core.proofs.settlement.decide.SettleMethod.try_from.Statement.{statement}
 use Rattle.metalbook_core.proofs.settlement.decide.SettleMethod.try_from.Tie as tie
 
 returns : tie.Need-returns

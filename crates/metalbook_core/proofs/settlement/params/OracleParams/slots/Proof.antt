@@ -1,5 +1,4 @@
-use Prim.Native.Nat.{_/_}
-use mathlib.Core.Path.{_≡_, sym}
+use mathlib.Core.Path.{sym}
 use native.Mathlib.Nat.{div-zero}
 use borrow.Author.Needs.{needs}
 use Rattle.metalbook_core.specs.Params.{termsOf}

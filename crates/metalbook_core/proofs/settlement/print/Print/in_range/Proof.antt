@@ -1,8 +1,3 @@
-use Prim.Native.Nat.{ℕ}
-use mathlib.Core.Path.{_≡_, sym}
-use mathlib.Core.Bool.{Bool, true, false, not, _||_}
-use lib.IntN.{pos}
-use lib.Signed.{ltZ, leZ}
 use mir.Syntax.{w64}
 use mir.Val.{SFits}
 use mir.Facts.{toZ-ofZ}
@@ -12,8 +7,6 @@ use Rattle.rules.proofs.Integers.{le-not-lt}
 use Rattle.metalbook_core.specs.Prints.{printOf}
 use Rattle.metalbook_core.proofs.settlement.print.Print.in_range.Statement.{statement}
 use Rattle.metalbook_core.proofs.settlement.print.Print.in_range.Tie as tie
-use Rattle.metalbook_core.proofs.settlement.print.Print.in_range.Reads as reads
-use Rattle.metalbook_core.proofs.settlement.print.Print.in_range.Lts as lts
 
 returns : tie.Need-returns
 unfolding printOf
