@@ -2,12 +2,13 @@
 use Prim.Native.Nat.{ℕ, _+_, _*_}
 use mathlib.Core.List.{_++_}
 use lib.ListN.{length, take, drop}
-use lib.Dec.{eqb}
+use mathlib.Core.Bool.{not}
+use lib.Dec.{ltb, eqb}
 use Rattle.rules.specs.Log.{Log, ε, _▹_, if_then_else_, maybe}
 use Rattle.rules.specs.Bytes.{Bytes, zeros}
 use Rattle.rules.specs.Answers.{Result, ok, refused, Answer, Refused}
 use Rattle.rules.specs.Series.{Command, Series, step, answer, changed}
-use Rattle.rules.specs.Record.{recordSize, bookSize, bytesOf, stored}
+use Rattle.rules.specs.Record.{recordSize, seriesCount, bookSize, bytesOf, stored}
 use Rattle.rules.specs.Entries.{Entry, noCommand, command, entry}
 
 -- the record of series s, and the book with another in its place
@@ -16,6 +17,13 @@ recordAt s book = take recordSize (drop (s * recordSize) book)
 
 unfoldable pub replaced : ℕ → Bytes → Bytes → Bytes
 replaced s r book = take (s * recordSize) book ++ (r ++ drop (s * recordSize + recordSize) book)
+
+-- "A look at a series gives back the record's own bytes as a part of the book (35, then 34)"
+unfoldable pub look : Bytes → ℕ → Result Bytes
+look book s =
+    if not (eqb (length book) bookSize) then refused 35 else
+    if not (ltb s seriesCount) then refused 34 else
+    ok (recordAt s book)
 
 -- "Order: 35, 33 if empty, 32, 33, 34, 11"; then the command's own
 abbrev pub storedAnswer : Result Series → Command → Answer
