@@ -8,7 +8,7 @@ use lib.Signed.{ltZ, leZ}
 use lib.Dec.{ltb, eqb}
 use Rattle.rules.specs.Log.{Log, ε, _▹_, if_then_else_, isSome, maybe, size, find, every}
 use Rattle.rules.specs.Bytes.{fits}
-use Rattle.rules.specs.Answers.{Answer, Used, Refused, isUsed}
+use Rattle.rules.specs.Answers.{Answer, Used, Refused}
 use Rattle.rules.specs.Terms.{Terms, slots}
 use Rattle.rules.specs.Prints.{Print, eqZ}
 
@@ -96,7 +96,3 @@ module _ (t : Terms) (E : ℤ) where
         linkChanged = if isLink c p then now else c .linkChanged;
         fallbackChanged = if isFallback c p then now else c .fallbackChanged;
       }
-
-  -- the candidates after a print: a refused one changes nothing
-  abbrev pub afterPrint : Candidates → Print → ℤ → Candidates
-  afterPrint c p now = if isUsed (printAnswer c p) then place c p now else c
