@@ -1,4 +1,6 @@
-//! Compares the proved entries with the Rust core on many inputs, and measures both.
+//! Compares the proved entries with the Rust core on many inputs, measures both, and records the Rust's answers.
+mod record;
+
 use metalbook_core::{accept_print, to_atoms};
 use std::collections::BTreeMap;
 use std::hint::black_box;
@@ -358,6 +360,7 @@ fn main() {
             };
             println!("{call} {side} sum {sum} ns {ns}");
         }
-        _ => panic!("compare | spin CALL SIDE TIMES"),
+        ["record", path] => std::process::exit(i32::from(!record::record(path, &mut random))),
+        _ => panic!("compare | spin CALL SIDE TIMES | record FILE"),
     }
 }
