@@ -235,7 +235,7 @@ fn partial(p: OracleParams, s: SettlementState, n: u16, hard: i64, now: i64) -> 
 }
 
 // The decision at the time now on a series with the terms p that expires at expiry.
-pub(crate) fn cascade(p: OracleParams, s: SettlementState, expiry: i64, now: i64) -> DecisionResult
+pub fn cascade(p: OracleParams, s: SettlementState, expiry: i64, now: i64) -> DecisionResult
     ensures { λ r. ⌜ decisionOf r ≡ decide (termsOf p) expiry (candidatesOf (stateOf s)) now ⌝ }
 {
     if now < expiry {
