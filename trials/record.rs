@@ -4,7 +4,7 @@ use metalbook_core::*;
 use std::collections::BTreeSet;
 
 /// Every kind of answer, and how many records of it the sample has.
-const WANTED: [(&str, u32); 51] = [
+const WANTED: [(&str, u32); 65] = [
     ("mean value", 120),
     ("mean refused 0", 80),
     ("accept value", 70),
@@ -56,6 +56,20 @@ const WANTED: [(&str, u32); 51] = [
     ("decide Void", 14),
     ("decide refused 0: a time", 30),
     ("decide refused 0: the price", 20),
+    ("params value", 60),
+    ("params refused 12: the window", 10),
+    ("params refused 12: the slot", 10),
+    ("params refused 12: the tolerance", 10),
+    ("params refused 12: the minimum", 10),
+    ("params refused 12: k", 10),
+    ("params refused 12: the delay", 10),
+    ("params refused 12: the lookback", 10),
+    ("params refused 12: the hard deadline", 10),
+    ("params refused 12: the exponent", 10),
+    ("print value", 30),
+    ("print refused 13", 30),
+    ("method value", 6),
+    ("method refused 1", 20),
 ];
 
 /// Terms with every number at its least and at its greatest, and ordinary ones.
@@ -607,6 +621,87 @@ fn decide(random: &mut Random) -> (String, Vec<u8>) {
     (outcome(&s, now, answer), record)
 }
 
+// ---- constructors
+
+/// Good terms with one number at its least or greatest, or one past that.
+fn new_params(random: &mut Random) -> (String, Vec<u8>) {
+    let mut t = random.pick(&TERMS);
+    let slots = t.0 / t.1;
+    let name = match random.below(9) {
+        0 => {
+            let (more, past) = (t.1.wrapping_mul(32), t.1.wrapping_mul(33));
+            t.0 = random.pick(&[0, 1, t.0 - 1, t.0.wrapping_add(1), t.1, more, past, u32::MAX]);
+            "the window"
+        }
+        1 => {
+            t.1 = random.pick(&[0, 1, t.1 - 1, t.1 + 1, t.0, t.0.wrapping_add(1), u32::MAX]);
+            "the slot"
+        }
+        2 => {
+            t.2 = random.pick(&[0, 1, (t.1 - 1) as u16, t.1 as u16, u16::MAX]);
+            "the tolerance"
+        }
+        3 => {
+            t.3 = random.pick(&[0, 1, slots as u16, slots as u16 + 1, u16::MAX]);
+            "the minimum"
+        }
+        4 => {
+            t.4 = random.pick(&[0, 1, 5, 6, u8::MAX]);
+            "k"
+        }
+        5 => {
+            t.5 = random.pick(&[0, 1, u32::MAX]);
+            "the delay"
+        }
+        6 => {
+            t.6 = random.pick(&[0, 1, u32::MAX]);
+            "the lookback"
+        }
+        7 => {
+            t.7 = random.pick(&[0, 1, t.0, t.0 + 1, u32::MAX]);
+            "the hard deadline"
+        }
+        _ => {
+            t.8 = random.pick(&[i8::MIN, -13, -12, 0, 1, i8::MAX]);
+            "the exponent"
+        }
+    };
+    let answer = OracleParams::try_new(t.0, t.1, t.2, t.3, t.4, t.5, t.6, t.7, t.8);
+    let mut record = vec![6];
+    record.extend(t.0.to_le_bytes());
+    record.extend(t.1.to_le_bytes());
+    record.extend(t.2.to_le_bytes());
+    record.extend(t.3.to_le_bytes());
+    record.push(t.4);
+    record.extend(t.5.to_le_bytes());
+    record.extend(t.6.to_le_bytes());
+    record.extend(t.7.to_le_bytes());
+    record.extend(t.8.to_le_bytes());
+    record.push(code(&answer));
+    (answer.map_or_else(|e| format!("refused {}: {name}", e as u8), |_| "value".into()), record)
+}
+
+fn new_print(random: &mut Random) -> (String, Vec<u8>) {
+    let price = random.pick(&[0, 1, 2, 1 << 63, u64::MAX]);
+    let published = random.pick(&TIMES);
+    let prev = random.pick(&[published, published.wrapping_sub(1), published.wrapping_add(1), -1, 0, 1]);
+    let answer = Print::try_new(price, published, prev);
+    let mut record = vec![7];
+    record.extend(price.to_le_bytes());
+    record.extend(published.to_le_bytes());
+    record.extend(prev.to_le_bytes());
+    record.push(code(&answer));
+    (answer.map_or_else(|e| format!("refused {}", e as u8), |_| "value".into()), record)
+}
+
+/// The method of a number, and its number again.
+fn method(random: &mut Random) -> (String, Vec<u8>) {
+    let number = if random.below(2) == 0 { random.below(8) as u8 } else { random.next() as u8 };
+    let answer = SettleMethod::try_from(number);
+    let record = vec![8, number, code(&answer), answer.map_or(0, |m| m as u8)];
+    (answer.map_or_else(|e| format!("refused {}", e as u8), |_| "value".into()), record)
+}
+
 /// Writes the sample, and says whether every kind of answer is in it.
 pub fn record(path: &str, random: &mut Random) -> bool {
     let mut sample = Sample::new();
@@ -615,6 +710,9 @@ pub fn record(path: &str, random: &mut Random) -> bool {
     sample.fill("restore", random, restore);
     sample.fill("add_print", random, add_print);
     sample.fill("decide", random, decide);
+    sample.fill("params", random, new_params);
+    sample.fill("print", random, new_print);
+    sample.fill("method", random, method);
     sample.write(path);
     sample.report()
 }

@@ -37,6 +37,9 @@ fn width(tag: u8) -> usize {
         3 => 309,
         4 => 352,
         5 => 203,
+        6 => 27,
+        7 => 25,
+        8 => 3,
         _ => 0,
     }
 }
@@ -49,6 +52,9 @@ fn is_same(tag: u8, b: &[u8; 352]) -> bool {
         3 => replay::restore(b),
         4 => replay::add_print(b),
         5 => replay::decide(b),
+        6 => replay::params(b),
+        7 => replay::print(b),
+        8 => replay::method(b),
         _ => false,
     }
 }

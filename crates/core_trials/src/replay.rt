@@ -9,6 +9,8 @@ use crate::fields::u32_at;
 use crate::fields::u64_at;
 use metalbook_core::settlement::decide::Decision;
 use metalbook_core::settlement::decide::DecisionResult;
+use metalbook_core::settlement::decide::MethodResult;
+use metalbook_core::settlement::decide::SettleMethod;
 use metalbook_core::settlement::mean::PriceResult;
 use metalbook_core::settlement::params::OracleParams;
 use metalbook_core::settlement::params::ParamsResult;
@@ -218,4 +220,32 @@ pub(crate) fn decide(b: &[u8; 352]) -> bool {
         b,
         s.decide(p, UnixTimestamp::new(i64_at(b, 167)), i64_at(b, 175)),
     )
+}
+
+// ---- constructors
+
+pub(crate) fn params(b: &[u8; 352]) -> bool {
+    match terms(b) {
+        ParamsResult::Ok(_) => b[26] == 255,
+        ParamsResult::Err(e) => b[26] == e.number(),
+    }
+}
+
+pub(crate) fn print(b: &[u8; 352]) -> bool {
+    match Print::try_new(u64_at(b, 0), i64_at(b, 8), i64_at(b, 16)) {
+        PrintResult::Ok(p) => {
+            b[24] == 255
+                && p.price() == u64_at(b, 0)
+                && p.publish_time() == i64_at(b, 8)
+                && p.prev_publish_time() == i64_at(b, 16)
+        }
+        PrintResult::Err(e) => b[24] == e.number(),
+    }
+}
+
+pub(crate) fn method(b: &[u8; 352]) -> bool {
+    match SettleMethod::try_from(b[0]) {
+        MethodResult::Ok(m) => b[1] == 255 && b[2] == m.number(),
+        MethodResult::Err(e) => b[1] == e.number() && b[2] == 0,
+    }
 }

@@ -3,8 +3,8 @@ ghost use Prim.Native.Nat.{_<_};
 use libc::STDOUT_FILENO;
 
 pub(crate) struct Tally {
-    replayed: [u32; 6],
-    different: [u32; 6],
+    replayed: [u32; 9],
+    different: [u32; 9],
     // The number of the first record that differs, from 1; 0 for none.
     first: u32,
 }
@@ -16,8 +16,8 @@ fn one_more(n: u32) -> u32 {
 impl Tally {
     pub(crate) fn new() -> Tally {
         Tally {
-            replayed: [0; 6],
-            different: [0; 6],
+            replayed: [0; 9],
+            different: [0; 9],
             first: 0,
         }
     }
@@ -25,7 +25,7 @@ impl Tally {
     // With the record of this number.
     pub(crate) fn with(self, tag: u8, is_same: bool, number: u32) -> Tally {
         let at = tag as usize;
-        if 5 < at {
+        if 8 < at {
             return self;
         }
         let mut t = self;
@@ -41,7 +41,7 @@ impl Tally {
     }
 
     fn line(self, name: &[u8], at: usize)
-        requires { ⌜ at < 6 ⌝ }
+        requires { ⌜ at < 9 ⌝ }
     {
         io::write_all(STDOUT_FILENO, name);
         io::print_decimal(STDOUT_FILENO, self.replayed[at] as u64);
@@ -54,6 +54,9 @@ impl Tally {
         self.line(b"restore ", 3);
         self.line(b"add_print ", 4);
         self.line(b"decide ", 5);
+        self.line(b"params ", 6);
+        self.line(b"print ", 7);
+        self.line(b"method ", 8);
         if self.first != 0 {
             say(b"the first that differs is record ", self.first);
         }
