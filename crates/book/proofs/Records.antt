@@ -15,7 +15,7 @@ use Rattle.rules.specs.Terms.{Terms}
 use Rattle.rules.specs.Decision.{decide}
 use Rattle.rules.specs.State.{Parts, candidatesOf}
 use Rattle.rules.specs.Series.{Series, empty, live, fixed, decided}
-use Rattle.rules.specs.Record.{recordSize, bookSize, seriesCount, openingIn, partsIn, tagIn, samplesIn, methodIn, fixingTimeIn, priceIn, samplesOf, methodOf, priceOf, seriesIn, bodyTests, openTests, acceptable, stored}
+use Rattle.rules.specs.Record.{recordSize, bookSize, seriesCount, openingIn, partsIn, tagIn, samplesIn, methodIn, fixingTimeIn, priceIn, samplesOf, methodOf, priceOf, seriesIn, bodyTests, openTests, outcomeTests, standing, acceptable, stored}
 use Rattle.rules.specs.Book.{recordAt, look}
 use Rattle.rules.proofs.Bools.{both}
 use Rattle.rules.proofs.Decision.{decide-by-price}
@@ -24,7 +24,7 @@ use Rattle.book.specs.declared.look.LookResult.the-variants as L
 use Rattle.book.specs.declared.record.Status.{Status}
 use Rattle.book.specs.declared.record.Loaded.{Loaded}
 use Rattle.book.specs.Looks.{lookResultOf}
-use Rattle.book.specs.Records.{loadedAs, loadedOf, contentsOf, noContents, contentsIn, outcomeTests, standing}
+use Rattle.book.specs.Records.{loadedAs, loadedOf, contentsOf, noContents, contentsIn}
 
 -- ---- a look
 

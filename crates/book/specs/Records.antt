@@ -1,14 +1,11 @@
 -- What was found in a record, read as the rules' series.
 use Prim.Native.Nat.{ℕ}
-use mathlib.Core.Bool.{Bool}
-use mathlib.Core.List.{List, [], _∷_}
 use lib.IntN.{ℤ, pos}
-use lib.Dec.{eqb}
 use Rattle.rules.specs.Bytes.{Bytes}
 use Rattle.rules.specs.Answers as R
 use Rattle.rules.specs.State.{Parts, partsOf, candidatesOf}
 use Rattle.rules.specs.Series.{Opening, Series, empty, live, fixed, noCandidates, decided}
-use Rattle.rules.specs.Record.{openingIn, partsIn, fixingTimeIn, samplesIn, methodIn, priceIn, samplesOf, methodOf, priceOf, stored}
+use Rattle.rules.specs.Record.{openingIn, partsIn, fixingTimeIn, stored}
 use Rattle.rules.specs.Book.{look}
 use Rattle.metalbook_core.specs.Params.{termsOf}
 use Rattle.metalbook_core.specs.States.{stateOf}
@@ -87,13 +84,3 @@ storedIn (R.refused r) = R.refused r
 
 abbrev pub storedAt : Bytes → ℕ → R.Result Series
 storedAt book s = storedIn (look book s)
-
--- ---- the outcome that stands in a record
-
--- it has these samples, this method and this price
-abbrev pub outcomeTests : Bytes → ℕ → ℕ → ℕ → List Bool
-outcomeTests bs samples method price = eqb (samplesIn bs) samples ∷ eqb (methodIn bs) method ∷ eqb (priceIn bs) price ∷ []
-
--- the answer is final and is what stands there
-abbrev pub standing : Bytes → R.Answer → List Bool
-standing bs a = R.final a ∷ outcomeTests bs (samplesOf a) (methodOf a) (priceOf a)

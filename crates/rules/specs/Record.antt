@@ -152,11 +152,17 @@ module _ (bs : Bytes) where
   abbrev pub openTests : List Bool
   openTests = eqb samplesIn 0 ∷ eqb methodIn 0 ∷ eqb (unsignedAt bs 184 8) 0 ∷ eqb priceIn 0 ∷ []
 
+  -- it has these samples, this method and this price
+  abbrev pub outcomeTests : ℕ → ℕ → ℕ → List Bool
+  outcomeTests samples number price = eqb samplesIn samples ∷ eqb methodIn number ∷ eqb priceIn price ∷ []
+
+  -- the answer is final and is what stands there
+  abbrev pub standing : Answer → List Bool
+  standing a = final a ∷ outcomeTests (samplesOf a) (methodOf a) (priceOf a)
+
   -- "Tag 2: the decision at the fixing time is final and is what stands there (Void: method 5, samples and price zero)."
   abbrev pub fixedTests : List Bool
-  fixedTests =
-      let d = decided openingIn (candidatesOf partsIn) fixingTimeIn in
-      final d ∷ eqb samplesIn (samplesOf d) ∷ eqb methodIn (methodOf d) ∷ eqb priceIn (priceOf d) ∷ []
+  fixedTests = standing (decided openingIn (candidatesOf partsIn) fixingTimeIn)
 
   -- "Tag 0: all zero. Above 2: not acceptable."
   unfoldable pub acceptable : Bool

@@ -4,14 +4,13 @@ use mir.Val.{toZ, ofZ}
 use mir.Syntax.{w64}
 use borrow.Author.Needs.{needs}
 use Rattle.rules.specs.Bytes.{signedAt}
-use Rattle.rules.specs.Record.{fixingTimeIn}
+use Rattle.rules.specs.Record.{fixingTimeIn, standing}
 use Rattle.rules.specs.Log.{every}
 use Rattle.rules.specs.Answers.{ok, Answer}
 use Rattle.rules.specs.State.{candidatesOf}
 use Rattle.rules.specs.Series.{fixed}
 use Rattle.metalbook_core.specs.Decisions.{answerOf, decisionOf}
 use Rattle.metalbook_core.proofs.Places.{passed, failed}
-use Rattle.book.specs.Records.{standing}
 use Rattle.book.proofs.Offsets.{came}
 use Rattle.book.proofs.Records.{without, opening-is, decided-is, again, stored-fixed}
 use Rattle.book.proofs.record.load_fixed.Statement.{statement}

@@ -2,7 +2,7 @@ use Prim.Native.Nat.{ℕ}
 use mathlib.Core.Path.{ap, _∙_}
 use borrow.Author.Needs.{needs}
 use Rattle.rules.specs.Log.{every}
-use Rattle.book.specs.Records.{outcomeTests}
+use Rattle.rules.specs.Record.{outcomeTests}
 use Rattle.book.proofs.record.stands.Statement.{statement}
 use Rattle.book.proofs.record.stands.Tie as tie
 
