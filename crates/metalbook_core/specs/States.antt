@@ -17,35 +17,31 @@ use Rattle.metalbook_core.specs.declared.settlement.state.Check.{Check}
 use Rattle.metalbook_core.specs.declared.settlement.state.Check.the-variants as C
 use Rattle.metalbook_core.specs.declared.settlement.state.Restored.{Restored}
 
+-- parts from their values, the sum as two halves
+abbrev partsWith : (bits high low links : ℕ) (times : List ℤ) (prices : List ℕ) (fallbackTime : ℤ) (fallbackPrice : ℕ) (windowChanged linkChanged fallbackChanged : ℤ) → Parts
+partsWith bits high low links times prices fallbackTime fallbackPrice windowChanged linkChanged fallbackChanged =
+    record {
+      bits = bits;
+      sum = high * 2 ^ 64 + low;
+      links = links;
+      times = times;
+      prices = prices;
+      fallbackTime = fallbackTime;
+      fallbackPrice = fallbackPrice;
+      windowChanged = windowChanged;
+      linkChanged = linkChanged;
+      fallbackChanged = fallbackChanged;
+    }
+
 unfoldable pub stateOf : SettlementState → Parts
 stateOf s =
-    record {
-      bits = s .«filled_slots»;
-      sum = s .«sample_sum_high» * 2 ^ 64 + s .«sample_sum_low»;
-      links = s .«next_len»;
-      times = s .«next_times»;
-      prices = s .«next_prices»;
-      fallbackTime = s .«fallback_time»;
-      fallbackPrice = s .«fallback_price»;
-      windowChanged = s .«window_changed»;
-      linkChanged = s .«next_print_changed»;
-      fallbackChanged = s .«fallback_changed»;
-    }
+    partsWith (s .«filled_slots») (s .«sample_sum_high») (s .«sample_sum_low») (s .«next_len») (s .«next_times») (s .«next_prices»)
+    (s .«fallback_time») (s .«fallback_price») (s .«window_changed») (s .«next_print_changed») (s .«fallback_changed»)
 
 unfoldable pub storedOf : SettlementParts → Parts
 storedOf s =
-    record {
-      bits = s .«filled_slots»;
-      sum = s .«sample_sum_high» * 2 ^ 64 + s .«sample_sum_low»;
-      links = s .«next_len»;
-      times = s .«next_times»;
-      prices = s .«next_prices»;
-      fallbackTime = s .«fallback_time»;
-      fallbackPrice = s .«fallback_price»;
-      windowChanged = s .«window_changed»;
-      linkChanged = s .«next_print_changed»;
-      fallbackChanged = s .«fallback_changed»;
-    }
+    partsWith (s .«filled_slots») (s .«sample_sum_high») (s .«sample_sum_low») (s .«next_len») (s .«next_times») (s .«next_prices»)
+    (s .«fallback_time») (s .«fallback_price») (s .«window_changed») (s .«next_print_changed») (s .«fallback_changed»)
 
 abbrev pub checkedAs : Check → Parts → R.Result Parts
 checkedAs C.Ok s = R.ok s
