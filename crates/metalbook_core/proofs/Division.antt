@@ -57,7 +57,7 @@ module _ (lo hi n up down high low : ℕ) (n⁺ : 0 < n) (down⁺ : 0 < down) (u
       (priced-no _ (le-div-iff-mul-le {x = 2 ^ 64} {y = (hi * 2 ^ 64 + lo) * up + n * down / 2} den⁺ .1
       (reach _ _ _ _ _ (mul-le-mul-left (2 ^ 64) h) (wider (2 ^ 64) hi lo) (grown (hi * 2 ^ 64 + lo) up up⁺))))
 
-  module _ (h-is : high ≡ hi * up + (lo * up + n * down / 2) / 2 ^ 64) (l-is : low ≡ (lo * up + n * down / 2) % 2 ^ 64) where
+  module _ (same : high * 2 ^ 64 + low ≡ hi * up * 2 ^ 64 + (lo * up + n * down / 2)) where
     words : (hi * 2 ^ 64 + lo) * up + n * down / 2 ≡ high * 2 ^ 64 + low
     words = omega (arith, add-mul (hi * 2 ^ 64) lo up, mul-right-comm hi (2 ^ 64) up)
 
@@ -66,8 +66,8 @@ module _ (lo hi n up down high low : ℕ) (n⁺ : 0 < n) (down⁺ : 0 < down) (u
         rw (rounded-is ((hi * 2 ^ 64 + lo) * up) (n * down))
         (priced-no _ (le-div-iff-mul-le {x = 2 ^ 64} {y = (hi * 2 ^ 64 + lo) * up + n * down / 2} den⁺ .1 (omega (arith, words))))
 
-    pub taken : high < n * down → priced (rounded ((hi * 2 ^ 64 + lo) * up) (n * down)) ≡ ok ((high / down * 2 ^ 64 + (high % down * 2 ^ 64 + low) / down) / n)
-    taken h =
+    pub taken : low < 2 ^ 64 → high < n * down → priced (rounded ((hi * 2 ^ 64 + lo) * up) (n * down)) ≡ ok ((high / down * 2 ^ 64 + (high % down * 2 ^ 64 + low) / down) / n)
+    taken f h =
         rw (rounded-is ((hi * 2 ^ 64 + lo) * up) (n * down), words)
         (priced-yes _ (quotient-below (high * 2 ^ 64 + low) (2 ^ 64) (n * down) den⁺ (omega arith))
         ∙ ap ok (ap (λ (m : ℕ). (high * 2 ^ 64 + low) / m) (mul-comm n down)

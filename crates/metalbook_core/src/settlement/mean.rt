@@ -1,8 +1,9 @@
 // The mean of prices, in 64-bit arithmetic: a product by a power of ten in halves, and a long
 // division with two digits of 32 bits.
 ghost use mathlib.Core.Path.{_≡_};
-ghost use Prim.Native.Nat.{_+_, _*_, _/_, _%_, _^_, _≤_, _<_};
+ghost use Prim.Native.Nat.{_+_, _*_, _/_, _^_, _≤_, _<_};
 ghost use Rattle.rules.specs.Mean.{rounded, mean};
+ghost use Rattle.numbers.specs.Wides.{wideOf};
 ghost use Rattle.metalbook_core.specs.Prices.{priceOf, priced};
 use crate::error::CoreError;
 use crate::settlement::params::MAX_EXPO;
@@ -12,11 +13,6 @@ use crate::units::StrikeUsd;
 pub enum PriceResult {
     Ok(StrikeUsd),
     Err(CoreError),
-}
-
-struct Halves {
-    high: u64,
-    low: u64,
 }
 
 // The quotient of h * 2^64 + l by d, for h < d.
@@ -30,13 +26,13 @@ fn narrow(h: u64, l: u64, d: u64) -> u64
 }
 
 // lo * up + half, in two words.
-fn scaled(lo: u64, up: u64, half: u64) -> Halves
+fn scaled(lo: u64, up: u64, half: u64) -> numbers::wide::Wide
     requires { ⌜ (up ≤ 1000000) × (half < 2 ^ 52) ⌝ }
-    ensures { λ r. ⌜ (r .high ≡ (lo * up + half) / 2 ^ 64) × (r .low ≡ (lo * up + half) % 2 ^ 64) ⌝ }
+    ensures { λ r. ⌜ wideOf r ≡ lo * up + half ⌝ }
 {
     let t0 = (lo % 0x1_0000_0000) * up + half;
     let t1 = (lo / 0x1_0000_0000) * up + t0 / 0x1_0000_0000;
-    Halves {
+    numbers::wide::Wide {
         high: t1 / 0x1_0000_0000,
         low: (t1 % 0x1_0000_0000) * 0x1_0000_0000 + t0 % 0x1_0000_0000,
     }

@@ -1,8 +1,9 @@
-use Prim.Native.Nat.{ℕ, _+_, _*_, _/_, _≤_, _^_}
-use mathlib.Core.Path.{sym, ap, _∙_}
+use Prim.Native.Nat.{ℕ, _+_, _*_, _/_, _≤_, _<_, _^_}
+use mathlib.Core.Path.{_≡_, sym, ap, _∙_}
 use native.Mathlib.Omega.{arith}
 use native.Mathlib.Nat.{mul-le-mul, mul-assoc, mul-le-mul-right, le-of-lt, mod-lt}
 use Rattle.rules.specs.Answers.{ok}
+use Rattle.numbers.specs.Wides.{wideOf}
 use Rattle.metalbook_core.proofs.Division.{refused-early, refused-late, taken, quotient-below}
 use borrow.Author.Needs.{needs}
 use Rattle.metalbook_core.proofs.settlement.mean.ratio.Statement.{statement}
@@ -20,10 +21,20 @@ high-small c =
 
 -- the product of the lower word carries less than the scale
 carried : (c : tie.After-scaled) → c .scaled .result .high ≤ 1000000
+unfolding wideOf
 carried c =
     let a = c .before .before .args in
     let t : a .lo * a .up ≤ 18446744073709551615 * 1000000 = mul-le-mul {n₂ = 18446744073709551615} {m₂ = 1000000} (omega arith) (omega arith) in
-    omega (arith, c .scaled .ensures .0, den-small (c .before .before), t)
+    omega (arith, c .scaled .ensures, den-small (c .before .before), t)
+
+-- the sum scaled, with half the divisor added, by the two words
+words : (c : tie.After-scaled) → (c .before .before .args .hi * c .before .before .args .up + c .scaled .result .high) * 2 ^ 64 + c .scaled .result .low
+    ≡ c .before .before .args .hi * c .before .before .args .up * 2 ^ 64 + (c .before .before .args .lo * c .before .before .args .up + c .before .before .args .count * c .before .before .args .down / 2)
+unfolding wideOf
+words c = omega (arith, c .scaled .ensures)
+
+low-fits : (c : tie.After-struct-known) → c .before .scaled .result .low < 2 ^ 64
+low-fits c = search needs
 
 mul-den : tie.Need-mul-den
 mul-den c = omega (arith, den-small c)
@@ -44,14 +55,14 @@ mul-high c =
 
 add-high : tie.Need-add-high
 add-high c =
-    omega (arith, high-small (c .before .before), c .before .scaled .ensures .0, carried (c .before))
+    omega (arith, high-small (c .before .before), carried (c .before))
 
 returns-2 : tie.Need-returns-2
 returns-2 c =
     let s = c .before .before in
     let a = s .before .before .args in
     let p = s .before .before .pre in
-    sym (refused-late (a .lo) (a .hi) (a .count) (a .up) (a .down) (a .hi * a .up + s .scaled .result .high) (s .scaled .result .low) (p .0) (p .1) (p .2) (ap (λ (n : ℕ). a .hi * a .up + n) (s .scaled .ensures .0)) (s .scaled .ensures .1) (c .if2 .taken))
+    sym (refused-late (a .lo) (a .hi) (a .count) (a .up) (a .down) (a .hi * a .up + s .scaled .result .high) (s .scaled .result .low) (p .0) (p .1) (p .2) (words s) (c .if2 .taken))
 
 rem-narrow : tie.Need-rem-narrow
 rem-narrow c = search needs
@@ -79,7 +90,7 @@ returns-3 c =
     let p = c .before .before .before .before .before .before .before .pre in
     let high = a .hi * a .up + c .before .before .before .before .before .scaled .result .high in
     ap ok (c .new .ensures ∙ c .before .narrow2 .ensures ∙ ap (λ (n : ℕ). (high / a .down * 2 ^ 64 + n) / a .count) (c .before .before .narrow .ensures))
-    ∙ sym (taken (a .lo) (a .hi) (a .count) (a .up) (a .down) high (c .before .before .before .before .before .scaled .result .low) (p .0) (p .1) (p .2) (ap (λ (n : ℕ). a .hi * a .up + n) (c .before .before .before .before .before .scaled .ensures .0)) (c .before .before .before .before .before .scaled .ensures .1) (c .before .before .before .if2 .left))
+    ∙ sym (taken (a .lo) (a .hi) (a .count) (a .up) (a .down) high (c .before .before .before .before .before .scaled .result .low) (p .0) (p .1) (p .2) (words (c .before .before .before .before .before)) (low-fits (c .before .before .before .before)) (c .before .before .before .if2 .left))
 
 pub ratio-spec : {M : Type 1} → statement M
 ratio-spec =

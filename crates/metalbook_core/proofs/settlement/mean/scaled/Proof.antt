@@ -3,6 +3,7 @@ use mathlib.Core.Path.{_≡_, sym, ap, _∙_}
 use native.Mathlib.Omega.{arith}
 use native.Mathlib.Nat.{mul-le-mul, add-mul, mul-right-comm, div-add-mod'}
 use borrow.Author.Needs.{needs}
+use Rattle.numbers.specs.Wides.{wideOf}
 use Rattle.metalbook_core.proofs.settlement.mean.scaled.Statement.{statement}
 use Rattle.metalbook_core.proofs.settlement.mean.scaled.Tie as tie
 
@@ -37,6 +38,7 @@ add-t10 : tie.Need-add-t10
 add-t10 c = search needs
 
 returns : tie.Need-returns
+unfolding wideOf
 returns c = omega (arith, low c, high c, whole c)
 
 pub scaled-spec : {M : Type 1} → statement M
