@@ -137,18 +137,10 @@ fn plus(w: numbers::wide::Wide, x: u64) -> numbers::wide::Wide
     requires { ⌜ w .high < 5 ⌝ }
     ensures { λ r. ⌜ (wideOf r ≡ wideOf w + x) × (r .high ≤ w .high + 1) ⌝ }
 {
-    let low = w.low;
-    let room = 0xffff_ffff_ffff_ffff - x;
-    if room < low {
-        return numbers::wide::Wide {
-            high: w.high + 1,
-            low: low - room - 1,
-        };
-    }
-    numbers::wide::Wide {
-        high: w.high,
-        low: low + x,
-    }
+    let numbers::wide::Sum::Of(sum) = numbers::wide::plus(w, x) else {
+        return w;
+    };
+    sum
 }
 
 // A number of links, at most the five that there is room for.
