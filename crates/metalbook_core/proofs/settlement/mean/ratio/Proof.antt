@@ -4,6 +4,7 @@ use native.Mathlib.Omega.{arith}
 use native.Mathlib.Nat.{mul-le-mul, mul-assoc, mul-le-mul-right, le-of-lt, mod-lt}
 use Rattle.rules.specs.Answers.{ok}
 use Rattle.numbers.specs.Wides.{wideOf}
+use Rattle.numbers.specs.declared.wide.Wide.{Wide}
 use Rattle.metalbook_core.proofs.Division.{refused-early, refused-late, taken, quotient-below}
 use borrow.Author.Needs.{needs}
 use Rattle.metalbook_core.proofs.settlement.mean.ratio.Statement.{statement}
@@ -27,11 +28,15 @@ carried c =
     let t : a .lo * a .up ≤ 18446744073709551615 * 1000000 = mul-le-mul {n₂ = 18446744073709551615} {m₂ = 1000000} (omega arith) (omega arith) in
     omega (arith, c .scaled .ensures, den-small (c .before .before), t)
 
+-- p more in the upper word
+upper-plus : (p : ℕ) (w : Wide) {n : ℕ} → wideOf w ≡ n → (p + w .high) * 2 ^ 64 + w .low ≡ p * 2 ^ 64 + n
+unfolding wideOf
+upper-plus p w e = omega arith
+
 -- the sum scaled, with half the divisor added, by the two words
 words : (c : tie.After-scaled) → (c .before .before .args .hi * c .before .before .args .up + c .scaled .result .high) * 2 ^ 64 + c .scaled .result .low
     ≡ c .before .before .args .hi * c .before .before .args .up * 2 ^ 64 + (c .before .before .args .lo * c .before .before .args .up + c .before .before .args .count * c .before .before .args .down / 2)
-unfolding wideOf
-words c = omega (arith, c .scaled .ensures)
+words c = upper-plus (c .before .before .args .hi * c .before .before .args .up) (c .scaled .result) (c .scaled .ensures)
 
 low-fits : (c : tie.After-struct-known) → c .before .scaled .result .low < 2 ^ 64
 low-fits c = search needs
