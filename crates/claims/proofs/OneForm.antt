@@ -1,25 +1,23 @@
 -- Each acceptable record has one byte form: what was read from it writes back as the same bytes.
-use Prim.Native.Nat.{ℕ, zero, suc, _+_, _/_, _%_, _^_, _<_, _≤_}
+use Prim.Native.Nat.{ℕ, zero, suc, _+_, _/_, _%_, _^_, _≤_, _<_}
 use mathlib.Core.Path.{_≡_, refl, sym, ap, ap₂, _∙_}
-use mathlib.Core.Bool.{Bool, true, false, _&&_, _||_}
+use mathlib.Core.Bool.{Bool, true, false, _&&_}
 use mathlib.Core.List.{List, [], _∷_}
 use native.Mathlib.Omega.{arith}
-use lib.ListN.{length, take, drop, getD, replicate, length-take, length-drop}
+use lib.ListN.{length, take, drop, replicate, length-take, length-drop}
 use lib.Seq.{take-all, take-add, drop-drop}
-use lib.IntN.{ℤ, pos, negsuc}
-use lib.Signed.{leZ}
+use lib.IntN.{ℤ, pos}
 use lib.Dec.{ltb, eqb}
-use borrow.Author.Tests.{ltb-true, ltb-false, leb-true, eqb-true}
-use Rattle.rules.proofs.Bools.{both, test, every-at}
-use Rattle.rules.proofs.Logs.{size-front, nth-after, nth-front}
+use borrow.Author.Tests.{eqb-true}
+use Rattle.rules.proofs.Bools.{both, every-at}
+use Rattle.rules.proofs.State.{parts-kept}
 use Rattle.rules.proofs.Decision.{decide-by-price}
 use Rattle.rules.proofs.Record.{outcome-back, written-read}
 use Rattle.rules.proofs.Bytes.{bytes-little, word-signed, little-below}
-use Rattle.rules.specs.Log.{if_then_else_, size, nth, front, every}
+use Rattle.rules.specs.Log.{if_then_else_, every}
 use Rattle.rules.specs.Bytes.{Bytes, areBytes, zeros, allZero, concat, little, unsignedAt, signedAt, bytes, word, signedBytes}
 use Rattle.rules.specs.Answers.{ok, refused, method, Answer}
-use Rattle.rules.specs.Prints.{eqZ}
-use Rattle.rules.specs.State.{Parts, candidatesOf, partsOf, zeroAfter, restoreTests, goodState}
+use Rattle.rules.specs.State.{Parts, candidatesOf, partsOf, goodState}
 use Rattle.rules.specs.Series.{Opening, Series, empty, live, fixed, decided}
 use Rattle.rules.specs.Record.{recordSize, methodOf, samplesOf, priceOf, fields, bytesOf, outcome, openingIn, partsIn, tagIn, samplesIn, methodIn, fixingTimeIn, priceIn, seriesIn, bodyTests, openTests, fixedTests, acceptable, stored}
 use Rattle.claims.specs.OneForm.{isRecord, OneForm}
@@ -41,7 +39,7 @@ concat-pieces : (ws : List ℕ) (i : ℕ) (bs : Bytes) → concat (pieces ws i b
 concat-pieces [] i bs = refl
 concat-pieces (w ∷ ws) i bs = rw (concat-pieces ws (i + w) bs, take-add w (sum ws) (drop i bs), drop-drop w i bs)
 
-take-bytes : (n : ℕ) (bs : Bytes) → areBytes bs ≡ true → areBytes (take n bs) ≡ true
+pub take-bytes : (n : ℕ) (bs : Bytes) → areBytes bs ≡ true → areBytes (take n bs) ≡ true
 take-bytes zero bs h = refl
 take-bytes (suc n) [] h = refl
 take-bytes (suc n) (b ∷ bs) h = let (x, y) = both (ltb b 256) (areBytes bs) h in rw (x, take-bytes n bs y)
@@ -49,22 +47,6 @@ take-bytes (suc n) (b ∷ bs) h = let (x, y) = both (ltb b 256) (areBytes bs) h 
 all-zero : (bs : Bytes) → allZero bs ≡ true → replicate (length bs) 0 ≡ bs
 all-zero [] h = refl
 all-zero (b ∷ bs) h = let (x, y) = both (eqb b 0) (allZero bs) h in ap₂ _∷_ (sym (eqb-true b 0 x)) (all-zero bs y)
-
--- ---- stored links
-
-eqZ-zero : (z : ℤ) → eqZ z (pos 0) ≡ true → z ≡ pos 0
-eqZ-zero (pos n) h = let l = leb-true n 0 (both (leZ (pos n) (pos 0)) (leZ (pos 0) (pos n)) h .0) in ap pos (omega arith)
-eqZ-zero (negsuc n) h = cc
-
--- what was read of five places and is zero after the first n goes back into the same places
-place-back : {A : Type 0} (d : A) (n : ℕ) (xs : List A) (j : ℕ) → (n ≤ j → getD xs j d ≡ d) → nth d (front d n xs) j ≡ getD xs j d
-place-back d n xs j h = go (ltb j n) refl
-  where
-    go : (b : Bool) → ltb j n ≡ b → nth d (front d n xs) j ≡ getD xs j d
-    go true e = nth-front d n xs j (ltb-true j n e)
-    go false e =
-        let l = ltb-false j n e in
-        nth-after d (front d n xs) j (omega (arith, size-front d n xs)) ∙ sym (h l)
 
 -- ---- a record of 200 bytes
 
@@ -130,41 +112,9 @@ module _ (bs : Bytes) (len : length bs ≡ recordSize) (are : areBytes bs ≡ tr
   -- ---- the state goes back into the same five places
 
   module _ (good : goodState (o .terms) s ≡ true) where
-    after-zero : (j : ℕ) → zeroAfter s j ≡ true → s .links ≤ j → (getD (s .times) j (pos 0) ≡ pos 0) × (getD (s .prices) j 0 ≡ 0)
-    after-zero j h l = go (ltb j (s .links)) refl h
-      where
-        go : (b : Bool) → ltb j (s .links) ≡ b → b || (eqZ (getD (s .times) j (pos 0)) (pos 0) && eqb (getD (s .prices) j 0) 0) ≡ true
-            → (getD (s .times) j (pos 0) ≡ pos 0) × (getD (s .prices) j 0 ≡ 0)
-        go true e h = let m = ltb-true j (s .links) e in let c : ⊥ = omega arith in absurd c
-        go false e h =
-            let (x, y) = both (eqZ (getD (s .times) j (pos 0)) (pos 0)) (eqb (getD (s .prices) j 0) 0) h in
-            (eqZ-zero (getD (s .times) j (pos 0)) x, eqb-true (getD (s .prices) j 0) 0 y)
-
-    time-place : (j : ℕ) → zeroAfter s j ≡ true → nth (pos 0) (front (pos 0) (s .links) (s .times)) j ≡ getD (s .times) j (pos 0)
-    time-place j h = place-back (pos 0) (s .links) (s .times) j (λ l. after-zero j h l .0)
-
-    price-place : (j : ℕ) → zeroAfter s j ≡ true → nth 0 (front 0 (s .links) (s .prices)) j ≡ getD (s .prices) j 0
-    price-place j h = place-back 0 (s .links) (s .prices) j (λ l. after-zero j h l .1)
-
-    zero-at : (j : ℕ) → test (restoreTests (o .terms) s) j ≡ true
-    unfolding goodState
-    zero-at j = every-at (restoreTests (o .terms) s) j good
-
     state-back : partsOf (candidatesOf s) ≡ s
-    unfolding partsOf candidatesOf partsIn
-    state-back =
-        λ x. record {
-          bits = s .bits;
-          sum = s .sum;
-          links = size-front (pos 0) (s .links) (s .times) x;
-          times = time-place 0 (zero-at 5) x ∷ time-place 1 (zero-at 6) x ∷ time-place 2 (zero-at 7) x ∷ time-place 3 (zero-at 8) x ∷ time-place 4 (zero-at 9) x ∷ [];
-          prices = price-place 0 (zero-at 5) x ∷ price-place 1 (zero-at 6) x ∷ price-place 2 (zero-at 7) x ∷ price-place 3 (zero-at 8) x ∷ price-place 4 (zero-at 9) x ∷ [];
-          fallbackTime = s .fallbackTime;
-          fallbackPrice = s .fallbackPrice;
-          windowChanged = s .windowChanged;
-          linkChanged = s .linkChanged;
-          fallbackChanged = s .fallbackChanged;
-        }
+    unfolding partsIn
+    state-back = parts-kept (o .terms) s good refl refl
 
     -- ---- an open and a fixed series
 

@@ -5,6 +5,7 @@ use Rattle.rules.specs.Answers as R
 use Rattle.rules.specs.Prints as P
 use Rattle.metalbook_core.specs.Errors.{numberOf}
 use Rattle.metalbook_core.specs.declared.settlement.print.Print.{Print}
+use Rattle.metalbook_core.specs.declared.settlement.print.Quote.{Quote}
 use Rattle.metalbook_core.specs.declared.settlement.print.PrintResult.{PrintResult}
 use Rattle.metalbook_core.specs.declared.settlement.print.PrintResult.the-variants as A
 
@@ -21,3 +22,6 @@ printResultOf (A.Err e) = R.refused (numberOf e)
 abbrev pub quoteAt : ℤ → ℕ → ℤ → ℤ → ℤ → P.Quote
 quoteAt price conf exponent published prev =
     record { price = price; conf = conf; exponent = exponent; published = published; prev = prev }
+
+unfoldable pub quoteOf : Quote → P.Quote
+quoteOf q = quoteAt (q .price) (q .conf) (q .exponent) (q .«publish_time») (q .«prev_publish_time»)

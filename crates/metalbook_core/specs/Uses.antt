@@ -2,6 +2,7 @@
 use Prim.Native.Nat.{ℕ}
 use mathlib.Core.Option.{Option, none, some}
 use Rattle.rules.specs.Answers as R
+use Rattle.rules.specs.Prints.{Print}
 use Rattle.metalbook_core.specs.Errors.{numberOf}
 use Rattle.metalbook_core.specs.declared.settlement.take.Index.{Index}
 use Rattle.metalbook_core.specs.declared.settlement.take.Index.the-variants as I
@@ -15,3 +16,8 @@ indexOf I.None = none
 abbrev pub usedOf : PrintUseResult → R.Answer
 usedOf (P.Ok u) = R.Used (indexOf (u .slot)) (indexOf (u .«next_print»)) (u .fallback)
 usedOf (P.Err e) = R.Refused (numberOf e)
+
+-- the refusal of a print; 13 where there is none
+abbrev pub refusedOf : R.Result Print → R.Answer
+refusedOf (R.ok p) = R.Refused 13
+refusedOf (R.refused n) = R.Refused n

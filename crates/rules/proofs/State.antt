@@ -1,19 +1,22 @@
 -- Candidates and the parts that they are stored as.
 use Prim.Native.Nat.{ℕ, zero, suc, _<_, _≤_}
-use mathlib.Core.Path.{_≡_, refl, sym}
+use mathlib.Core.Path.{_≡_, refl, sym, ap, _∙_}
+use mathlib.Core.List.{List, [], _∷_}
 use mathlib.Core.Bool.{Bool, true, false, _&&_, _||_}
 use native.Mathlib.Omega.{arith}
-use lib.ListN.{getD}
-use lib.IntN.{pos}
+use lib.ListN.{length, getD}
+use lib.IntN.{ℤ, pos, negsuc}
+use lib.Signed.{leZ}
 use lib.Dec.{ltb, eqb}
-use borrow.Author.Tests.{leb-true, eqb-true}
-use Rattle.rules.proofs.Bools.{test, every-at}
+use borrow.Author.Tests.{ltb-true, ltb-false, leb-true, eqb-true}
+use Rattle.rules.proofs.Bools.{both, test, every-at}
 use Rattle.rules.proofs.Integers.{tests}
-use Rattle.rules.proofs.Logs.{front-nth, nth-after}
+use Rattle.rules.proofs.Logs.{front-nth, size-front, nth-front, nth-after}
 use Rattle.rules.specs.Log.{Log, size, nth, front}
+use Rattle.rules.specs.Terms.{Terms}
 use Rattle.rules.specs.Prints.{eqZ}
 use Rattle.rules.specs.Taking.{Candidates}
-use Rattle.rules.specs.State.{candidatesOf, five, partsOf, zeroAfter}
+use Rattle.rules.specs.State.{Parts, candidatesOf, five, partsOf, zeroAfter, restoreTests, goodState}
 use Rattle.rules.specs.Record.{candidatesFields, candidatesFit}
 
 pub five-at : {A : Type 0} (d : A) (l : Log A) (j : ℕ) → j < 5 → getD (five d l) j d ≡ nth d l j
@@ -53,3 +56,73 @@ module _ (c : Candidates) (f : candidatesFit c ≡ true) where
       go : (t : Bool) → ltb j (size (c .times)) ≡ t → t || (eqZ (nth (pos 0) (c .times) j) (pos 0) && eqb (nth 0 (c .prices) j) 0) ≡ true
       go true e = refl
       go false e = rw (nth-after (pos 0) (c .times) j (omega tests), nth-after 0 (c .prices) j (omega (tests, same-sizes)))
+
+-- ---- parts that pass `restore`'s test
+
+eqZ-zero : (z : ℤ) → eqZ z (pos 0) ≡ true → z ≡ pos 0
+eqZ-zero (pos n) h = let l = leb-true n 0 (both (leZ (pos n) (pos 0)) (leZ (pos 0) (pos n)) h .0) in ap pos (omega arith)
+eqZ-zero (negsuc n) h = cc
+
+-- what was read of five places and is zero after the first n goes back into the same places
+place-back : {A : Type 0} (d : A) (n : ℕ) (xs : List A) (j : ℕ) → (n ≤ j → getD xs j d ≡ d) → nth d (front d n xs) j ≡ getD xs j d
+place-back d n xs j h = go (ltb j n) refl
+  where
+    go : (b : Bool) → ltb j n ≡ b → nth d (front d n xs) j ≡ getD xs j d
+    go true e = nth-front d n xs j (ltb-true j n e)
+    go false e =
+        let l = ltb-false j n e in
+        nth-after d (front d n xs) j (omega (arith, size-front d n xs)) ∙ sym (h l)
+
+-- a list of five, one by one
+pub five-are : {A : Type 0} (d : A) (l : List A) → length l ≡ 5 → getD l 0 d ∷ getD l 1 d ∷ getD l 2 d ∷ getD l 3 d ∷ getD l 4 d ∷ [] ≡ l
+five-are d (a ∷ b ∷ c ∷ e ∷ f ∷ []) h = refl
+five-are d [] h = absurd (omega arith)
+five-are d (a ∷ []) h = absurd (omega arith)
+five-are d (a ∷ b ∷ []) h = absurd (omega arith)
+five-are d (a ∷ b ∷ c ∷ []) h = absurd (omega arith)
+five-are d (a ∷ b ∷ c ∷ e ∷ []) h = absurd (omega arith)
+five-are d (a ∷ b ∷ c ∷ e ∷ f ∷ g ∷ l) h = absurd (omega arith)
+
+module _ (t : Terms) (s : Parts) (good : goodState t s ≡ true) where
+  passes : (j : ℕ) → test (restoreTests t s) j ≡ true
+  unfolding goodState
+  passes j = every-at (restoreTests t s) j good
+
+  after-zero : (j : ℕ) → zeroAfter s j ≡ true → s .links ≤ j → (getD (s .times) j (pos 0) ≡ pos 0) × (getD (s .prices) j 0 ≡ 0)
+  after-zero j h l = go (ltb j (s .links)) refl h
+    where
+      go : (b : Bool) → ltb j (s .links) ≡ b → b || (eqZ (getD (s .times) j (pos 0)) (pos 0) && eqb (getD (s .prices) j 0) 0) ≡ true
+          → (getD (s .times) j (pos 0) ≡ pos 0) × (getD (s .prices) j 0 ≡ 0)
+      go true e h = let m = ltb-true j (s .links) e in let c : ⊥ = omega arith in absurd c
+      go false e h =
+          let (x, y) = both (eqZ (getD (s .times) j (pos 0)) (pos 0)) (eqb (getD (s .prices) j 0) 0) h in
+          (eqZ-zero (getD (s .times) j (pos 0)) x, eqb-true (getD (s .prices) j 0) 0 y)
+
+  time-place : (j : ℕ) → zeroAfter s j ≡ true → nth (pos 0) (front (pos 0) (s .links) (s .times)) j ≡ getD (s .times) j (pos 0)
+  time-place j h = place-back (pos 0) (s .links) (s .times) j (λ l. after-zero j h l .0)
+
+  price-place : (j : ℕ) → zeroAfter s j ≡ true → nth 0 (front 0 (s .links) (s .prices)) j ≡ getD (s .prices) j 0
+  price-place j h = place-back 0 (s .links) (s .prices) j (λ l. after-zero j h l .1)
+
+  -- they go back into the same five places
+  pub parts-kept : length (s .times) ≡ 5 → length (s .prices) ≡ 5 → partsOf (candidatesOf s) ≡ s
+  unfolding partsOf candidatesOf
+  parts-kept ht hp =
+      let times : five (pos 0) (front (pos 0) (s .links) (s .times)) ≡ s .times =
+      (λ x. time-place 0 (passes 5) x ∷ time-place 1 (passes 6) x ∷ time-place 2 (passes 7) x ∷ time-place 3 (passes 8) x ∷ time-place 4 (passes 9) x ∷ [])
+      ∙ five-are (pos 0) (s .times) ht in
+      let prices : five 0 (front 0 (s .links) (s .prices)) ≡ s .prices =
+      (λ x. price-place 0 (passes 5) x ∷ price-place 1 (passes 6) x ∷ price-place 2 (passes 7) x ∷ price-place 3 (passes 8) x ∷ price-place 4 (passes 9) x ∷ [])
+      ∙ five-are 0 (s .prices) hp in
+      λ x. record {
+        bits = s .bits;
+        sum = s .sum;
+        links = size-front (pos 0) (s .links) (s .times) x;
+        times = times x;
+        prices = prices x;
+        fallbackTime = s .fallbackTime;
+        fallbackPrice = s .fallbackPrice;
+        windowChanged = s .windowChanged;
+        linkChanged = s .linkChanged;
+        fallbackChanged = s .fallbackChanged;
+      }

@@ -12,6 +12,15 @@ pub struct Print {
     pub prev_publish_time: i64,
 }
 
+// What acceptance is given.
+pub struct Quote {
+    pub price: i64,
+    pub conf: u64,
+    pub exponent: i32,
+    pub publish_time: i64,
+    pub prev_publish_time: i64,
+}
+
 pub enum PrintResult {
     Ok(Print),
     Err(CoreError),

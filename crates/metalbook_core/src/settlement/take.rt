@@ -6,16 +6,19 @@ ghost use Rattle.rules.specs.Log.{if_then_else_, isSome};
 ghost use Rattle.rules.specs.Answers.{isUsed};
 ghost use Rattle.rules.specs.Terms.{goodTerms};
 ghost use Rattle.rules.specs.Taking.{bit, printAnswer, place};
-ghost use Rattle.rules.specs.State.{candidatesOf, partsOf, goodState, addPrintCall, addPrintState};
+ghost use Rattle.rules.specs.State.{candidatesOf, partsOf, goodState, addPrintCall, addPrintState, offerCall, offerState};
 ghost use Rattle.numbers.specs.Wides.{wideOf};
 ghost use Rattle.metalbook_core.specs.Params.{termsOf};
-ghost use Rattle.metalbook_core.specs.Prints.{printOf};
+ghost use Rattle.metalbook_core.specs.Prints.{printOf, printResultOf, quoteOf};
 ghost use Rattle.metalbook_core.specs.States.{stateOf};
-ghost use Rattle.metalbook_core.specs.Uses.{indexOf, usedOf};
+ghost use Rattle.metalbook_core.specs.Uses.{indexOf, usedOf, refusedOf};
 ghost use Rattle.metalbook_core.specs.Placing.{slotResultOf, slotUse, slotAt, linkUse, fallbackResultOf, fallbackUse, totalOf, totalAfter, fillable, withSlot, linkable, withLink, withFallback};
 use crate::error::CoreError;
 use crate::settlement::params::OracleParams;
 use crate::settlement::print::Print;
+use crate::settlement::print::PrintResult;
+use crate::settlement::print::Quote;
+use crate::settlement::print::accept_print;
 use crate::settlement::state::SettlementState;
 use crate::units::UnixTimestamp;
 use numbers::time::Gap;
@@ -285,6 +288,16 @@ pub(crate) fn add(p: OracleParams, s: SettlementState, expiry: i64, x: Print, no
     }
 }
 
+// The refusal of a print; an accepted one is not asked for it.
+fn refused(r: PrintResult) -> PrintUseResult
+    ensures { λ u. ⌜ usedOf u ≡ refusedOf (printResultOf r) ⌝ }
+{
+    match r {
+        PrintResult::Ok(_) => PrintUseResult::Err(CoreError::InvalidPrint),
+        PrintResult::Err(e) => PrintUseResult::Err(e),
+    }
+}
+
 impl SettlementState {
     // Takes a print: 12 for the terms, 11 for the state, 13 for the print, and then the core's
     // answer. A refusal gives back the state that was given.
@@ -315,6 +328,48 @@ impl SettlementState {
                 state: self,
             };
         }
+        add(params, self, expiry.get(), print, now)
+    }
+
+    // An offered print: 12 for the terms, 11 for the state, then its acceptance and the core's
+    // answer. A refusal gives back the state that was given.
+    pub fn offer(
+        self,
+        params: OracleParams,
+        expiry: UnixTimestamp,
+        max_conf_bps: u16,
+        quote: Quote,
+        now: i64,
+    ) -> Added
+        ensures { λ r. ⌜ (usedOf (r .result) ≡ offerCall (termsOf params) «max_conf_bps» (expiry .0) (stateOf self) (quoteOf quote)) × (stateOf (r .state) ≡ offerState (termsOf params) «max_conf_bps» (expiry .0) (stateOf self) (quoteOf quote) now) ⌝ }
+    {
+        if !params.in_range() {
+            return Added {
+                result: PrintUseResult::Err(CoreError::InvalidOracleParams),
+                state: self,
+            };
+        }
+        if !self.in_range(params) {
+            return Added {
+                result: PrintUseResult::Err(CoreError::InvariantViolated),
+                state: self,
+            };
+        }
+        let accepted = accept_print(
+            quote.price,
+            quote.conf,
+            quote.exponent,
+            quote.publish_time,
+            quote.prev_publish_time,
+            params.expo,
+            max_conf_bps,
+        );
+        let PrintResult::Ok(print) = accepted else {
+            return Added {
+                result: refused(accepted),
+                state: self,
+            };
+        };
         add(params, self, expiry.get(), print, now)
     }
 }
