@@ -1,4 +1,12 @@
 //! Compares the proved entries with the Rust core on many inputs, measures both, and records the Rust's answers.
+mod acceptable;
+mod book;
+mod book_bench;
+mod book_compare;
+mod book_record;
+mod by_hand;
+mod journals;
+mod kinds;
 mod record;
 
 use metalbook_core::{accept_print, to_atoms};
@@ -18,11 +26,21 @@ unsafe extern "C" {
         max_conf_bps: u16,
         amount: *mut u64,
     ) -> u8;
+    fn lanternfold_command(
+        book: *mut u8,
+        book_len: usize,
+        entry: *const u8,
+        entry_len: usize,
+        first: *mut u64,
+        second: *mut u64,
+        third: *mut u64,
+    ) -> u8;
 }
 
 /// Each side is called through the same kind of entry, so that neither is inlined and both pay the same for the call.
 type MeanEntry = unsafe extern "C" fn(u64, u64, u32, i8, *mut u64) -> u8;
 type AcceptEntry = unsafe extern "C" fn(i64, u64, i32, i64, i64, i8, u16, *mut u64) -> u8;
+type CommandEntry = unsafe extern "C" fn(*mut u8, usize, *const u8, usize, *mut u64, *mut u64, *mut u64) -> u8;
 
 /// The Rust's mean; for an exponent outside −12..0 the port's own answer, 12 (docs/DIFFERENCES.md).
 unsafe extern "C" fn rust_to_atoms(sum_low: u64, sum_high: u64, count: u32, expo: i8, price: *mut u64) -> u8 {
@@ -70,6 +88,18 @@ unsafe extern "C" fn no_accept(_: i64, _: u64, _: i32, _: i64, _: i64, _: i8, _:
 type Answer = (u8, u64);
 
 const BEFORE: u64 = 0x5555_5555_5555_5555;
+
+/// What a command gave: the code, and the three numbers, each as it was before where the answer has none.
+type Given = (u8, [u64; 3]);
+
+/// Gives one command to a book.
+fn give(side: CommandEntry, book: &mut [u8], entry: &[u8]) -> Given {
+    let [mut first, mut second, mut third] = [BEFORE; 3];
+    let (book_len, entry_len) = (book.len(), entry.len());
+    let code =
+        unsafe { side(book.as_mut_ptr(), book_len, entry.as_ptr(), entry_len, &mut first, &mut second, &mut third) };
+    (code, [first, second, third])
+}
 
 #[derive(Clone, Copy, Debug)]
 struct Mean {
@@ -329,38 +359,54 @@ fn which(side: &str) -> usize {
     ["ours", "rust", "none"].iter().position(|s| *s == side).expect("ours, rust or none")
 }
 
+/// Spins a call of the core.
+fn spin_core(random: &mut Random, call: &str, side: usize, times: usize) -> (u64, u128) {
+    let means = bench_means(random);
+    let quotes = bench_quotes(random, 20);
+    let large = bench_quotes(random, 1);
+    if call == "mean" {
+        let sides: [MeanEntry; 3] = [lanternfold_to_atoms, rust_to_atoms, no_mean];
+        let entry = black_box(sides[side]);
+        spin(&means, times, |m| mean(entry, m))
+    } else {
+        let sides: [AcceptEntry; 3] = [lanternfold_accept_print, rust_accept_print, no_accept];
+        let entry = black_box(sides[side]);
+        spin(if call == "accept" { &quotes } else { &large }, times, |q| accept(entry, q))
+    }
+}
+
+fn compare_core(random: &mut Random) -> bool {
+    let mean = compare_mean(random);
+    let accept = compare_accept(random);
+    mean && accept
+}
+
+fn finish(good: bool) {
+    println!("{}", if good { "no difference" } else { "DIFFERENT" });
+    std::process::exit(i32::from(!good));
+}
+
 fn main() {
     let words: Vec<String> = std::env::args().skip(1).collect();
     let mut random = Random(88_172_645_463_325_252);
     match words.iter().map(String::as_str).collect::<Vec<_>>().as_slice() {
         [] | ["compare"] => {
-            let mean = compare_mean(&mut random);
-            let accept = compare_accept(&mut random);
-            let good = mean && accept;
-            println!("{}", if good { "no difference" } else { "DIFFERENT" });
-            std::process::exit(i32::from(!good));
+            let core = compare_core(&mut random);
+            let book = book_compare::compare(&mut random);
+            finish(core && book);
         }
+        ["compare", "core"] => finish(compare_core(&mut random)),
+        ["compare", "book"] => finish(book_compare::compare(&mut random)),
         ["spin", call, side, times] => {
             let times = times.parse().expect("a number of calls");
-            let means = bench_means(&mut random);
-            let quotes = bench_quotes(&mut random, 20);
-            let large = bench_quotes(&mut random, 1);
             let (sum, ns) = match *call {
-                "mean" => {
-                    let sides: [MeanEntry; 3] = [lanternfold_to_atoms, rust_to_atoms, no_mean];
-                    let entry = black_box(sides[which(side)]);
-                    spin(&means, times, |m| mean(entry, m))
-                }
-                "accept" | "accept_large" => {
-                    let sides: [AcceptEntry; 3] = [lanternfold_accept_print, rust_accept_print, no_accept];
-                    let entry = black_box(sides[which(side)]);
-                    spin(if *call == "accept" { &quotes } else { &large }, times, |q| accept(entry, q))
-                }
-                _ => panic!("spin mean|accept|accept_large ours|rust|none TIMES"),
+                "mean" | "accept" | "accept_large" => spin_core(&mut random, call, which(side), times),
+                _ => book_bench::spin(&mut random, call, which(side), times),
             };
             println!("{call} {side} sum {sum} ns {ns}");
         }
-        ["record", path] => std::process::exit(i32::from(!record::record(path, &mut random))),
-        _ => panic!("compare | spin CALL SIDE TIMES | record FILE"),
+        ["record", "core", path] => std::process::exit(i32::from(!record::record(path, &mut random))),
+        ["record", "book", path] => std::process::exit(i32::from(!book_record::record(path, &mut random))),
+        _ => panic!("compare [core | book] | spin CALL SIDE TIMES | record core|book FILE"),
     }
 }

@@ -72,8 +72,11 @@ const WANTED: [(&str, u32); 65] = [
     ("method refused 1", 20),
 ];
 
+/// The numbers of terms, in the order of `OracleParams::try_new`.
+pub type Terms = (u32, u32, u16, u16, u8, u32, u32, u32, i8);
+
 /// Terms with every number at its least and at its greatest, and ordinary ones.
-const TERMS: [(u32, u32, u16, u16, u8, u32, u32, u32, i8); 12] = [
+pub const TERMS: [Terms; 12] = [
     (40, 10, 2, 2, 2, 5, 60, 100, -2),
     (40, 10, 9, 4, 3, 5, 40, 41, -6),
     (30, 10, 0, 3, 5, 7, 20, 31, -8),
@@ -90,14 +93,14 @@ const TERMS: [(u32, u32, u16, u16, u8, u32, u32, u32, i8); 12] = [
 
 /// A state that passes `restore`, its terms, and an expiry.
 #[derive(Clone, Copy)]
-struct Series {
-    terms: OracleParams,
-    parts: SettlementParts,
-    expiry: i64,
+pub struct Series {
+    pub terms: OracleParams,
+    pub parts: SettlementParts,
+    pub expiry: i64,
 }
 
 impl Series {
-    fn state(&self) -> SettlementState {
+    pub fn state(&self) -> SettlementState {
         SettlementState::restore(&self.terms, self.parts).expect("a good state")
     }
 
@@ -275,13 +278,16 @@ fn accept(random: &mut Random) -> (String, Vec<u8>) {
 
 // ---- states that pass `restore`
 
+pub fn params(t: Terms) -> Result<OracleParams, CoreError> {
+    OracleParams::try_new(t.0, t.1, t.2, t.3, t.4, t.5, t.6, t.7, t.8)
+}
+
 fn terms(random: &mut Random) -> OracleParams {
-    let t = random.pick(&TERMS);
-    OracleParams::try_new(t.0, t.1, t.2, t.3, t.4, t.5, t.6, t.7, t.8).expect("good terms")
+    params(random.pick(&TERMS)).expect("good terms")
 }
 
 /// Mostly an expiry with room on both sides; else one at which a time just fits, or just doesn't.
-fn expiry(random: &mut Random, t: &OracleParams) -> i64 {
+pub fn expiry(random: &mut Random, t: &OracleParams) -> i64 {
     let [window, lookback, hard, delay] =
         [t.window_s(), t.fallback_lookback_s(), t.hard_deadline_s(), t.challenge_delay_s()].map(i64::from);
     let plain = window + lookback + 1000;
@@ -366,7 +372,7 @@ fn changed(random: &mut Random, s: &Series) -> i64 {
     at.saturating_add(random.below(3) as i64 - 1)
 }
 
-fn series(random: &mut Random) -> Series {
+pub fn series(random: &mut Random) -> Series {
     let terms = terms(random);
     let mut s = Series { terms, parts: SettlementParts::default(), expiry: expiry(random, &terms) };
     s.parts.filled_slots = filled(random, terms.slots());
@@ -382,7 +388,7 @@ fn series(random: &mut Random) -> Series {
 // ---- restore
 
 /// Breaks one condition of `restore`, where the state lets it be broken alone.
-fn broken(random: &mut Random, t: &OracleParams, p: &mut SettlementParts) -> &'static str {
+pub fn broken(random: &mut Random, t: &OracleParams, p: &mut SettlementParts) -> &'static str {
     let len = usize::from(p.next_len);
     match random.below(12) {
         0 if t.slots() < 32 && p.filled_slots != 0 => {
@@ -543,7 +549,7 @@ fn add_print(random: &mut Random) -> (String, Vec<u8>) {
 // ---- decide
 
 /// A time around one at which the decision changes.
-fn asked(random: &mut Random, s: &Series) -> i64 {
+pub fn asked(random: &mut Random, s: &Series) -> i64 {
     let after = |t: i64| t.saturating_add(i64::from(s.terms.challenge_delay_s()));
     let at = random.pick(&[
         s.expiry,
@@ -623,11 +629,10 @@ fn decide(random: &mut Random) -> (String, Vec<u8>) {
 
 // ---- constructors
 
-/// Good terms with one number at its least or greatest, or one past that.
-fn new_params(random: &mut Random) -> (String, Vec<u8>) {
-    let mut t = random.pick(&TERMS);
+/// Sets one number of good terms to its least or greatest, or one past that, and names it.
+pub fn strained(random: &mut Random, t: &mut Terms) -> &'static str {
     let slots = t.0 / t.1;
-    let name = match random.below(9) {
+    match random.below(9) {
         0 => {
             let (more, past) = (t.1.wrapping_mul(32), t.1.wrapping_mul(33));
             t.0 = random.pick(&[0, 1, t.0 - 1, t.0.wrapping_add(1), t.1, more, past, u32::MAX]);
@@ -665,8 +670,13 @@ fn new_params(random: &mut Random) -> (String, Vec<u8>) {
             t.8 = random.pick(&[i8::MIN, -13, -12, 0, 1, i8::MAX]);
             "the exponent"
         }
-    };
-    let answer = OracleParams::try_new(t.0, t.1, t.2, t.3, t.4, t.5, t.6, t.7, t.8);
+    }
+}
+
+fn new_params(random: &mut Random) -> (String, Vec<u8>) {
+    let mut t = random.pick(&TERMS);
+    let name = strained(random, &mut t);
+    let answer = params(t);
     let mut record = vec![6];
     record.extend(t.0.to_le_bytes());
     record.extend(t.1.to_le_bytes());

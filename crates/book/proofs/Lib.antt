@@ -1,2 +1,4 @@
 pub mod Offsets
 pub mod Records
+pub mod Entries
+pub mod Stores

@@ -1,30 +1,30 @@
 -- What is stored in a record, by its tag and the tests that the code makes.
-use Prim.Native.Nat.{ℕ, _+_, _*_, _-_, _<_}
+use Prim.Native.Nat.{ℕ, zero, suc, _+_, _*_, _-_, _<_}
 use mathlib.Core.Path.{_≡_, refl, sym, ap, _∙_}
-use mathlib.Core.Bool.{Bool, true, false, not}
+use mathlib.Core.Bool.{Bool, true, false, not, _&&_}
+use mathlib.Core.List.{[], _∷_, _++_}
 use native.Mathlib.Omega.{arith}
 use lib.ListN.{length, take, drop, length-drop}
 use lib.Seq.{length-take-le}
 use lib.IntN.{ℤ}
 use lib.Dec.{ltb, eqb}
-use borrow.Author.Tests.{ltb-true, ne-eqb, eqb-true}
+use borrow.Author.Tests.{ltb-true, ne-eqb, eqb-true, eq-eqb}
+use borrow.Rule.Slice.PartMut.{putMid, post-is}
 use Rattle.rules.specs.Log.{if_then_else_, every}
-use Rattle.rules.specs.Bytes.{Bytes, allZero, unsignedAt, signedAt}
-use Rattle.rules.specs.Answers.{Result, ok, refused, Answer, final}
-use Rattle.rules.specs.Terms.{Terms}
+use Rattle.rules.specs.Bytes.{Bytes, allZero, little, unsignedAt, signedAt}
+use Rattle.rules.specs.Answers.{Result, ok, refused, Method, number, method, Answer}
+use Rattle.rules.specs.Terms.{Terms, goodTerms}
 use Rattle.rules.specs.Decision.{decide}
-use Rattle.rules.specs.State.{Parts, candidatesOf}
-use Rattle.rules.specs.Series.{Series, empty, live, fixed, decided}
-use Rattle.rules.specs.Record.{recordSize, bookSize, seriesCount, openingIn, partsIn, tagIn, samplesIn, methodIn, fixingTimeIn, priceIn, samplesOf, methodOf, priceOf, seriesIn, bodyTests, openTests, outcomeTests, standing, acceptable, stored}
-use Rattle.rules.specs.Book.{recordAt, look}
-use Rattle.rules.proofs.Bools.{both}
-use Rattle.rules.proofs.Decision.{decide-by-price}
-use Rattle.rules.proofs.Record.{outcome-back}
+use Rattle.rules.specs.State.{Parts, candidatesOf, goodState}
+use Rattle.rules.specs.Series.{empty, live, decided}
+use Rattle.rules.specs.Record.{recordSize, bookSize, seriesCount, openingIn, partsIn, tagIn, fixingTimeIn, seriesIn, bodyTests, openTests, fixedTests, acceptable, stored}
+use Rattle.rules.specs.Book.{recordAt, replaced, look}
+use Rattle.rules.proofs.Bools.{both, and-true, and-false}
+use Rattle.metalbook_core.specs.States.{valueOr}
 use Rattle.book.specs.declared.look.LookResult.the-variants as L
-use Rattle.book.specs.declared.record.Status.{Status}
-use Rattle.book.specs.declared.record.Loaded.{Loaded}
+use Rattle.book.specs.declared.record.Status.the-variants as S
 use Rattle.book.specs.Looks.{lookResultOf}
-use Rattle.book.specs.Records.{loadedAs, loadedOf, contentsOf, noContents, contentsIn}
+use Rattle.book.specs.Records.{goodBody, statusAs}
 
 -- ---- a look
 
@@ -40,6 +40,11 @@ refused-look (refused r) n e = ap refused (sym (number-is n r e))
 pub part-is : (s : ℕ) (book : Bytes) → take (s * recordSize + recordSize - s * recordSize) (drop (s * recordSize) book) ≡ recordAt s book
 unfolding recordAt
 part-is s book = let e : s * recordSize + recordSize - s * recordSize ≡ recordSize = omega arith in rw e
+
+pub put-is : (s : ℕ) (r book : Bytes) → putMid (s * recordSize) (s * recordSize + recordSize - s * recordSize) book r ≡ replaced s r book
+unfolding replaced
+put-is s r book =
+    ap (λ (x : Bytes). take (s * recordSize) book ++ (r ++ x)) (post-is (s * recordSize) (s * recordSize + recordSize) book (omega arith))
 
 module _ (book : Bytes) (s : ℕ) (e : L.Ok ≡ lookResultOf (look book s)) where
   tests-passed : (eqb (length book) bookSize ≡ true) × (ltb s seriesCount ≡ true)
@@ -65,13 +70,12 @@ module _ (book : Bytes) (s : ℕ) (e : L.Ok ≡ lookResultOf (look book s)) wher
       let (p, q) = in-book in
       length-take-le recordSize (drop (s * recordSize) book) (rw (length-drop (s * recordSize) book) (omega arith))
 
--- ---- the record, by its tag
+  -- and gives its bytes
+  pub part-looked : {r : Bytes} → r ≡ valueOr [] (look book s) → (r ≡ recordAt s book) × (length r ≡ recordSize)
+  part-looked {r} h =
+      let e : r ≡ recordAt s book = h ∙ ap (valueOr []) looked in (e, ap (λ (b : Bytes). length b) e ∙ record-whole)
 
--- a status without a series says the answer, and that the contents are none
-pub without : (l : Loaded) (bs : Bytes) {s : Status} {x : Result Series}
-    → (l .status ≡ s) × (contentsOf l ≡ noContents) → noContents ≡ contentsIn s bs → loadedAs s l ≡ x
-    → (loadedOf l ≡ x) × (contentsOf l ≡ contentsIn (l .status) bs)
-without l bs h g e = (ap (λ (s : Status). loadedAs s l) (h .0) ∙ e, h .1 ∙ g ∙ sym (ap (λ (s : Status). contentsIn s bs) (h .0)))
+-- ---- the record, by its tag
 
 module _ (bs : Bytes) where
   pub opening-is : {t : Terms} {b : ℕ} {E : ℤ} → t ≡ openingIn bs .terms → b ≡ unsignedAt bs 8 2 → E ≡ signedAt bs 40 8
@@ -96,10 +100,29 @@ module _ (bs : Bytes) where
       go false true = refl
       go false false = refl
 
-  pub stored-open : (b : Bool) → tagIn bs ≡ 1 → every (bodyTests bs) ≡ true → every (openTests bs) ≡ b
-      → stored bs ≡ (if b then ok (live (openingIn bs) (candidatesOf (partsIn bs))) else refused 11)
+  -- where bytes 37 to 39 are not zero, whatever the terms and the state are
+  pub not-padded : eqb (unsignedAt bs 37 3) 0 ≡ false → every (bodyTests bs) ≡ false
+  not-padded e = simp (e, and-false)
+
+  -- where they are, by the terms and the state
+  pub body-is : {t : Terms} {s : Parts} → t ≡ openingIn bs .terms → s ≡ partsIn bs → unsignedAt bs 37 3 ≡ 0
+      → every (bodyTests bs) ≡ goodTerms t && goodState t s
+  body-is et es e = simp (eq-eqb (unsignedAt bs 37 3) 0 e, and-true) (λ i. goodTerms (sym et i) && goodState (sym et i) (sym es i))
+
+  -- where they are, an open and a fixed record
+  pub open-status : (b : Bool) → tagIn bs ≡ 1 → unsignedAt bs 37 3 ≡ 0 → every (openTests bs) ≡ b → (if b then statusAs S.Open bs else refused 11) ≡ stored bs
   unfolding stored acceptable seriesIn
-  stored-open b t e f = rw (t, e, f)
+  open-status b t p f = rw (t, body-is refl refl p, f) (go (goodBody bs) b)
+    where
+      go : (x y : Bool) → (if y then (if x then ok (live (openingIn bs) (candidatesOf (partsIn bs))) else refused 11) else refused 11)
+          ≡ (if x && y then ok (live (openingIn bs) (candidatesOf (partsIn bs))) else refused 11)
+      go true y = refl
+      go false true = refl
+      go false false = refl
+
+  pub fixed-status : (b : Bool) → tagIn bs ≡ 2 → unsignedAt bs 37 3 ≡ 0 → b ≡ goodBody bs && every (fixedTests bs) → (if b then statusAs S.Fixed bs else refused 11) ≡ stored bs
+  unfolding stored acceptable seriesIn
+  fixed-status b t p f = rw (t, body-is refl refl p, f)
 
   -- the decision at the fixing time
   abbrev pub again : Answer
@@ -110,18 +133,46 @@ module _ (bs : Bytes) where
   unfolding openingIn
   decided-is et eE es ea = λ i. decide (et i) (eE i) (candidatesOf (es i)) (ea i)
 
-  -- the outcome that passes the tests is the decision
-  pub stored-fixed : (b : Bool) → tagIn bs ≡ 2 → every (bodyTests bs) ≡ true → every (standing bs again) ≡ b
-      → stored bs ≡ (if b then ok (fixed (openingIn bs) (candidatesOf (partsIn bs)) again (fixingTimeIn bs)) else refused 11)
-  unfolding stored acceptable seriesIn
-  stored-fixed false t e f = rw (t, e, f)
-  stored-fixed true t e f =
-      let (a, r) = both (final again) (every (outcomeTests bs (samplesOf again) (methodOf again) (priceOf again))) f in
-      let (x, r) = both (eqb (samplesIn bs) (samplesOf again)) _ r in
-      let (y, r) = both (eqb (methodIn bs) (methodOf again)) _ r in
-      let (z, r) = both (eqb (priceIn bs) (priceOf again)) _ r in
-      let x = eqb-true (samplesIn bs) (samplesOf again) x in
-      let y = eqb-true (methodIn bs) (methodOf again) y in
-      let z = eqb-true (priceIn bs) (priceOf again) z in
-      rw (t, e, f, y, z, x)
-      (ap (λ (o : Answer). ok (fixed (openingIn bs) (candidatesOf (partsIn bs)) o (fixingTimeIn bs))) (outcome-back again a (decide-by-price (openingIn bs .terms) (openingIn bs .expiry) (candidatesOf (partsIn bs)) (fixingTimeIn bs))))
+-- ---- bytes that are all zero, eight at a time
+
+pub zero-word : (n : ℕ) (bs : Bytes) → little (take n bs) ≡ 0 → allZero bs ≡ allZero (drop n bs)
+zero-word zero bs e = refl
+zero-word (suc n) [] e = refl
+zero-word (suc n) (b ∷ bs) e =
+    let z : b ≡ 0 = omega arith in
+    let r : little (take n bs) ≡ 0 = omega arith in rw z (zero-word n bs r)
+
+pub other-word : (n : ℕ) (bs : Bytes) → (little (take n bs) ≡ 0 → ⊥) → allZero bs ≡ false
+other-word n bs h = go (allZero bs) refl
+  where
+    zero-all : (n : ℕ) (bs : Bytes) → allZero bs ≡ true → little (take n bs) ≡ 0
+    zero-all zero bs e = refl
+    zero-all (suc n) [] e = refl
+    zero-all (suc n) (b ∷ bs) e =
+        let (x, y) = both (eqb b 0) (allZero bs) e in
+        let z = eqb-true b 0 x in
+        let r = zero-all n bs y in omega arith
+
+    go : (b : Bool) → allZero bs ≡ b → allZero bs ≡ false
+    go true e = absurd (h (zero-all n bs e))
+    go false e = e
+
+-- ---- methods
+
+pub method-back : (n : ℕ) (m : Method) → method n ≡ ok m → number m ≡ n
+unfolding method
+method-back n m e = go (eqb n 0) (eqb n 1) (eqb n 2) (eqb n 3) (eqb n 4) (eqb n 5) refl refl refl refl refl refl e
+  where
+    same : (k : Method) → ok k ≡ ok m → number k ≡ n → number m ≡ n
+    same k e h = let i : k ≡ m = cc in rw (← i) h
+
+    go : (a b c d f g : Bool) → eqb n 0 ≡ a → eqb n 1 ≡ b → eqb n 2 ≡ c → eqb n 3 ≡ d → eqb n 4 ≡ f → eqb n 5 ≡ g
+        → (if a then ok Method.Window else (if b then ok Method.NextPrint else (if c then ok Method.PartialNextPrint else (if d then ok Method.PartialWindow else (if f then ok Method.Fallback else (if g then ok Method.Void else refused 1)))))) ≡ ok m
+        → number m ≡ n
+    go true b c d f g p q r s t u e = same Method.Window e (sym (eqb-true n 0 p))
+    go false true c d f g p q r s t u e = same Method.NextPrint e (sym (eqb-true n 1 q))
+    go false false true d f g p q r s t u e = same Method.PartialNextPrint e (sym (eqb-true n 2 r))
+    go false false false true f g p q r s t u e = same Method.PartialWindow e (sym (eqb-true n 3 s))
+    go false false false false true g p q r s t u e = same Method.Fallback e (sym (eqb-true n 4 t))
+    go false false false false false true p q r s t u e = same Method.Void e (sym (eqb-true n 5 u))
+    go false false false false false false p q r s t u e = cc

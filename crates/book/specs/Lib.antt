@@ -1,2 +1,4 @@
 pub mod Looks
 pub mod Records
+pub mod Entries
+pub mod Stores

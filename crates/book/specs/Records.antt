@@ -1,79 +1,38 @@
 -- What was found in a record, read as the rules' series.
 use Prim.Native.Nat.{ℕ}
+use mathlib.Core.Bool.{Bool, _&&_}
 use lib.IntN.{ℤ, pos}
+use Rattle.rules.specs.Log.{if_then_else_}
 use Rattle.rules.specs.Bytes.{Bytes}
 use Rattle.rules.specs.Answers as R
-use Rattle.rules.specs.State.{Parts, partsOf, candidatesOf}
-use Rattle.rules.specs.Series.{Opening, Series, empty, live, fixed, noCandidates, decided}
-use Rattle.rules.specs.Record.{openingIn, partsIn, fixingTimeIn, stored}
+use Rattle.rules.specs.Terms.{goodTerms}
+use Rattle.rules.specs.State.{Parts, partsOf, candidatesOf, goodState}
+use Rattle.rules.specs.Series.{Opening, Series, empty, live, fixed, noCandidates}
+use Rattle.rules.specs.Record.{outcome, openingIn, partsIn, methodIn, samplesIn, fixingTimeIn, priceIn, stored}
 use Rattle.rules.specs.Book.{look}
+use Rattle.metalbook_core.specs.declared.settlement.params.OracleParams.{OracleParams}
 use Rattle.metalbook_core.specs.Params.{termsOf}
 use Rattle.metalbook_core.specs.States.{stateOf}
-use Rattle.metalbook_core.specs.Decisions.{answerOf}
 use Rattle.book.specs.declared.record.Status.{Status}
 use Rattle.book.specs.declared.record.Status.the-variants as S
-use Rattle.book.specs.declared.record.Loaded.{Loaded}
+use Rattle.book.specs.declared.record.Contents.{Contents}
 
-abbrev pub openingOf : Loaded → Opening
-openingOf l =
-    record {
-      terms = termsOf (l .params);
-      bps = l .«max_conf_bps»;
-      expiry = l .expiry .0;
-    }
+-- ---- what a record is
 
-abbrev pub loadedAs : Status → Loaded → R.Result Series
-loadedAs S.Empty l = R.ok empty
-loadedAs S.Open l = R.ok (live (openingOf l) (candidatesOf (stateOf (l .state))))
-loadedAs S.Fixed l = R.ok (fixed (openingOf l) (candidatesOf (stateOf (l .state))) (answerOf (l .outcome)) (l .«fixing_time»))
-loadedAs (S.Refused r) l = R.refused r
+-- the terms and the state are good
+abbrev pub goodBody : Bytes → Bool
+goodBody bs = goodTerms (openingIn bs .terms) && goodState (openingIn bs .terms) (partsIn bs)
 
-abbrev pub loadedOf : Loaded → R.Result Series
-loadedOf l = loadedAs (l .status) l
+-- the outcome that stands there
+abbrev pub outcomeIn : Bytes → R.Answer
+outcomeIn bs = outcome (R.method (methodIn bs)) (priceIn bs) (samplesIn bs)
 
--- ---- every field beside the status
-
-pub record Contents : Type 0 where
-  pub opening : Opening
-  pub parts : Parts
-  pub outcome : R.Answer
-  pub fixingTime : ℤ
-
-abbrev pub contentsOf : Loaded → Contents
-contentsOf l =
-    record {
-      opening = openingOf l;
-      parts = stateOf (l .state);
-      outcome = answerOf (l .outcome);
-      fixingTime = l .«fixing_time»;
-    }
-
--- zeros, and Void
-abbrev pub noContents : Contents
-noContents =
-    record {
-      opening = record {
-        terms = record { window = 0; slot = 0; tolerance = 0; minimum = 0; k = 0; delay = 0; lookback = 0; hard = 0; exponent = pos 0 };
-        bps = 0;
-        expiry = pos 0;
-      };
-      parts = partsOf noCandidates;
-      outcome = R.Void;
-      fixingTime = pos 0;
-    }
-
--- the record's own; none beside Empty and a refusal, and no outcome beside Open
-abbrev pub contentsIn : Status → Bytes → Contents
-contentsIn S.Empty bs = noContents
-contentsIn S.Open bs = record { opening = openingIn bs; parts = partsIn bs; outcome = R.Void; fixingTime = pos 0 }
-contentsIn S.Fixed bs =
-    record {
-      opening = openingIn bs;
-      parts = partsIn bs;
-      outcome = decided (openingIn bs) (candidatesOf (partsIn bs)) (fixingTimeIn bs);
-      fixingTime = fixingTimeIn bs;
-    }
-contentsIn (S.Refused r) bs = noContents
+-- what is stored in a record of this status; under Open the terms and the state are still to be tested
+abbrev pub statusAs : Status → Bytes → R.Result Series
+statusAs S.Empty bs = R.ok empty
+statusAs S.Open bs = if goodBody bs then R.ok (live (openingIn bs) (candidatesOf (partsIn bs))) else R.refused 11
+statusAs S.Fixed bs = R.ok (fixed (openingIn bs) (candidatesOf (partsIn bs)) (outcomeIn bs) (fixingTimeIn bs))
+statusAs (S.Refused r) bs = R.refused r
 
 -- ---- a record of the book
 
@@ -84,3 +43,41 @@ storedIn (R.refused r) = R.refused r
 
 abbrev pub storedAt : Bytes → ℕ → R.Result Series
 storedAt book s = storedIn (look book s)
+
+-- ---- what stands in a record
+
+abbrev pub openingWith : OracleParams → ℕ → ℤ → Opening
+openingWith params bps expiry = record { terms = termsOf params; bps = bps; expiry = expiry }
+
+pub record Held : Type 0 where
+  pub opening : Opening
+  pub parts : Parts
+
+abbrev pub openingOf : Contents → Opening
+openingOf c = openingWith (c .params) (c .«max_conf_bps») (c .expiry .0)
+
+abbrev pub contentsOf : Contents → Held
+contentsOf c = record { opening = openingOf c; parts = stateOf (c .state) }
+
+abbrev pub contentsIn : Bytes → Held
+contentsIn bs = record { opening = openingIn bs; parts = partsIn bs }
+
+abbrev pub noContents : Held
+noContents =
+    record {
+      opening = record {
+        terms = record { window = 0; slot = 0; tolerance = 0; minimum = 0; k = 0; delay = 0; lookback = 0; hard = 0; exponent = pos 0 };
+        bps = 0;
+        expiry = pos 0;
+      };
+      parts = partsOf noCandidates;
+    }
+
+-- zeros where the look is refused, and Void
+abbrev pub contentsAt : R.Result Bytes → Held
+contentsAt (R.ok bytes) = contentsIn bytes
+contentsAt (R.refused r) = noContents
+
+abbrev pub outcomeAt : R.Result Bytes → R.Answer
+outcomeAt (R.ok bytes) = outcomeIn bytes
+outcomeAt (R.refused r) = R.Void

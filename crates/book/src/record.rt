@@ -1,15 +1,17 @@
 // Records: read at their offsets, and whether they are acceptable.
 ghost use mathlib.Core.Path.{_≡_};
-ghost use mathlib.Core.Bool.{true};
+ghost use mathlib.Core.Bool.{_&&_};
 ghost use lib.ListN.{length};
 ghost use Rattle.rules.specs.Log.{every};
 ghost use Rattle.rules.specs.Bytes.{allZero};
-ghost use Rattle.rules.specs.Record.{recordSize, openingIn, partsIn, tagIn, bodyTests, openTests, outcomeTests, standing, stored};
+ghost use Rattle.rules.specs.Terms.{goodTerms};
+ghost use Rattle.rules.specs.State.{goodState};
+ghost use Rattle.rules.specs.Record.{recordSize, openingIn, partsIn, openTests, fixedTests, outcomeTests, standing, stored};
+ghost use Rattle.rules.specs.Book.{recordAt, look};
 ghost use Rattle.metalbook_core.specs.Params.{termsOf};
 ghost use Rattle.metalbook_core.specs.States.{stateOf};
-ghost use Rattle.metalbook_core.specs.Decisions.{answerOf};
-ghost use Rattle.rules.specs.Book.{recordAt};
-ghost use Rattle.book.specs.Records.{loadedOf, contentsOf, noContents, contentsIn, storedAt};
+ghost use Rattle.metalbook_core.specs.Decisions.{answerOf, decisionOf};
+ghost use Rattle.book.specs.Records.{goodBody, statusAs, storedAt, contentsOf, contentsIn, noContents, contentsAt, outcomeIn, outcomeAt};
 use crate::fields::i8_at;
 use crate::fields::i64_at;
 use crate::fields::u8_at;
@@ -22,10 +24,12 @@ use crate::look::look;
 use crate::look::look_result;
 use metalbook_core::settlement::decide::Decision;
 use metalbook_core::settlement::decide::DecisionResult;
+use metalbook_core::settlement::decide::MethodResult;
 use metalbook_core::settlement::decide::SettleMethod;
 use metalbook_core::settlement::decide::cascade;
 use metalbook_core::settlement::params::OracleParams;
 use metalbook_core::settlement::state::SettlementState;
+use metalbook_core::units::StrikeUsd;
 use metalbook_core::units::UnixTimestamp;
 
 pub enum Status {
@@ -35,15 +39,12 @@ pub enum Status {
     Refused(u8),
 }
 
-// What a record holds. Beside Empty and Refused the other fields say nothing, and beside Open the last two.
-pub struct Loaded {
-    pub status: Status,
+// What a record holds beside its outcome.
+pub struct Contents {
     pub params: OracleParams,
     pub max_conf_bps: u16,
     pub expiry: UnixTimestamp,
     pub state: SettlementState,
-    pub outcome: Decision,
-    pub fixing_time: i64,
 }
 
 // ---- the fields
@@ -98,12 +99,14 @@ pub(crate) fn read_state(bytes: &[u8]) -> SettlementState
 
 // ---- the tests
 
+// Eight bytes at a time.
 fn all_zero(bytes: &[u8]) -> bool
+    requires { ⌜ length (now bytes) ≡ recordSize ⌝ }
     ensures { λ r. ⌜ r ≡ allZero (now (bytes .entry)) ⌝ }
 {
     let mut i = 0;
-    while i < bytes.len() {
-        if bytes[i] != 0 {
+    while i < 25 {
+        if u64_at(bytes, 8 * i) != 0 {
             return false;
         }
         i += 1;
@@ -111,18 +114,14 @@ fn all_zero(bytes: &[u8]) -> bool
     true
 }
 
-// Terms and state accepted, and bytes 37 to 39 zero.
-fn body_ok(bytes: &[u8], params: OracleParams, state: SettlementState) -> bool
-    requires { ⌜ (length (now bytes) ≡ recordSize) × (termsOf params ≡ openingIn (now bytes) .terms) × (stateOf state ≡ partsIn (now bytes)) ⌝ }
-    ensures { λ r. ⌜ r ≡ every (bodyTests (now (bytes .entry))) ⌝ }
+// Whether the terms are good, and the state on them.
+pub fn accepted(params: OracleParams, state: SettlementState) -> bool
+    ensures { λ r. ⌜ r ≡ goodTerms (termsOf params) && goodState (termsOf params) (stateOf state) ⌝ }
 {
     if !params.in_range() {
         return false;
     }
-    if !state.in_range(params) {
-        return false;
-    }
-    u24_at(bytes, 37) == 0
+    state.in_range(params)
 }
 
 // No outcome: samples, method, fixing time and price zero.
@@ -174,9 +173,79 @@ fn stands(bytes: &[u8], d: Decision) -> bool
 
 // ---- the record as a whole
 
-// The status alone.
-fn without_series(status: Status) -> Loaded
-    ensures { λ r. ⌜ (r .status ≡ status) × (contentsOf r ≡ noContents) ⌝ }
+// Whether a record of tag 2 is acceptable: the decision at the fixing time is computed again.
+fn is_fixed(bytes: &[u8]) -> bool
+    requires { ⌜ length (now bytes) ≡ recordSize ⌝ }
+    ensures { λ r. ⌜ r ≡ goodBody (now (bytes .entry)) && every (fixedTests (now (bytes .entry))) ⌝ }
+{
+    let params = read_params(bytes);
+    let state = read_state(bytes);
+    if !accepted(params, state) {
+        return false;
+    }
+    let expiry = i64_at(bytes, 40);
+    let time = i64_at(bytes, 184);
+    let DecisionResult::Ok(d) = cascade(params, state, expiry, time) else {
+        return false;
+    };
+    stands(bytes, d)
+}
+
+// A record's 200 bytes.
+fn status_of(bytes: &[u8]) -> Status
+    requires { ⌜ length (now bytes) ≡ recordSize ⌝ }
+    ensures { λ r. ⌜ statusAs r (now (bytes .entry)) ≡ stored (now (bytes .entry)) ⌝ }
+{
+    let tag = u8_at(bytes, 0);
+    if tag == 0 {
+        if all_zero(bytes) {
+            return Status::Empty;
+        }
+        return Status::Refused(11);
+    }
+    if 2 < tag {
+        return Status::Refused(11);
+    }
+    if u24_at(bytes, 37) != 0 {
+        return Status::Refused(11);
+    }
+    if tag == 1 {
+        if no_outcome(bytes) {
+            return Status::Open;
+        }
+        return Status::Refused(11);
+    }
+    if is_fixed(bytes) {
+        return Status::Fixed;
+    }
+    Status::Refused(11)
+}
+
+// What the record of a series is: 35, 34, and 11 where it is not acceptable. The terms and the
+// state of an open record are not tested yet: the core's calls test them.
+pub fn status_at(book: &[u8], series: u8) -> Status
+    ensures { λ r. ⌜ statusAs r (recordAt series (now (book .entry))) ≡ storedAt (now (book .entry)) series ⌝ }
+{
+    match look_result(book, series) {
+        LookResult::Ok => status_of(look(book, series)),
+        LookResult::Refused(n) => Status::Refused(n),
+    }
+}
+
+fn read_contents(bytes: &[u8]) -> Contents
+    requires { ⌜ length (now bytes) ≡ recordSize ⌝ }
+    ensures { λ r. ⌜ contentsOf r ≡ contentsIn (now (bytes .entry)) ⌝ }
+{
+    Contents {
+        params: read_params(bytes),
+        max_conf_bps: u16_at(bytes, 8),
+        expiry: UnixTimestamp::new(i64_at(bytes, 40)),
+        state: read_state(bytes),
+    }
+}
+
+fn no_contents() -> Contents
+    ensures { λ r. ⌜ contentsOf r ≡ noContents ⌝ }
 {
     let params = OracleParams {
         window_s: 0,
@@ -189,92 +258,49 @@ fn without_series(status: Status) -> Loaded
         hard_deadline_s: 0,
         expo: 0,
     };
-    Loaded {
-        status: status,
+    Contents {
         params: params,
         max_conf_bps: 0,
         expiry: UnixTimestamp::new(0),
         state: SettlementState::empty(),
-        outcome: Decision::Void,
-        fixing_time: 0,
     }
 }
 
-// A record of tag 1.
-fn load_open(bytes: &[u8], params: OracleParams, state: SettlementState) -> Loaded
-    requires { ⌜ (length (now bytes) ≡ recordSize) × (termsOf params ≡ openingIn (now bytes) .terms) × (stateOf state ≡ partsIn (now bytes)) × (tagIn (now bytes) ≡ 1) × (every (bodyTests (now bytes)) ≡ true) ⌝ }
-    ensures { λ r. ⌜ (loadedOf r ≡ stored (now (bytes .entry))) × (contentsOf r ≡ contentsIn (r .status) (now (bytes .entry))) ⌝ }
-{
-    if !no_outcome(bytes) {
-        return without_series(Status::Refused(11));
-    }
-    Loaded {
-        status: Status::Open,
-        params: params,
-        max_conf_bps: u16_at(bytes, 8),
-        expiry: UnixTimestamp::new(i64_at(bytes, 40)),
-        state: state,
-        outcome: Decision::Void,
-        fixing_time: 0,
-    }
-}
-
-// A record of tag 2: the decision at the fixing time is computed again.
-fn load_fixed(bytes: &[u8], params: OracleParams, state: SettlementState) -> Loaded
-    requires { ⌜ (length (now bytes) ≡ recordSize) × (termsOf params ≡ openingIn (now bytes) .terms) × (stateOf state ≡ partsIn (now bytes)) × (tagIn (now bytes) ≡ 2) × (every (bodyTests (now bytes)) ≡ true) ⌝ }
-    ensures { λ r. ⌜ (loadedOf r ≡ stored (now (bytes .entry))) × (contentsOf r ≡ contentsIn (r .status) (now (bytes .entry))) ⌝ }
-{
-    let expiry = i64_at(bytes, 40);
-    let time = i64_at(bytes, 184);
-    let DecisionResult::Ok(d) = cascade(params, state, expiry, time) else {
-        return without_series(Status::Refused(11));
-    };
-    if !stands(bytes, d) {
-        return without_series(Status::Refused(11));
-    }
-    Loaded {
-        status: Status::Fixed,
-        params: params,
-        max_conf_bps: u16_at(bytes, 8),
-        expiry: UnixTimestamp::new(expiry),
-        state: state,
-        outcome: d,
-        fixing_time: time,
-    }
-}
-
-// A record's 200 bytes. The decision is computed for tag 2 only.
-fn load_record(bytes: &[u8]) -> Loaded
-    requires { ⌜ length (now bytes) ≡ recordSize ⌝ }
-    ensures { λ r. ⌜ (loadedOf r ≡ stored (now (bytes .entry))) × (contentsOf r ≡ contentsIn (r .status) (now (bytes .entry))) ⌝ }
-{
-    let tag = u8_at(bytes, 0);
-    if tag == 0 {
-        if all_zero(bytes) {
-            return without_series(Status::Empty);
-        }
-        return without_series(Status::Refused(11));
-    }
-    if 2 < tag {
-        return without_series(Status::Refused(11));
-    }
-    let params = read_params(bytes);
-    let state = read_state(bytes);
-    if !body_ok(bytes, params, state) {
-        return without_series(Status::Refused(11));
-    }
-    if tag == 1 {
-        return load_open(bytes, params, state);
-    }
-    load_fixed(bytes, params, state)
-}
-
-// The series of a record of the book: 35, 34, and 11 where the record is not acceptable.
-pub fn load(book: &[u8], series: u8) -> Loaded
-    ensures { λ r. ⌜ (loadedOf r ≡ storedAt (now (book .entry)) series) × (contentsOf r ≡ contentsIn (r .status) (recordAt series (now (book .entry)))) ⌝ }
+// What stands in the record of a series, acceptable or not; zeros where the look is refused.
+pub fn contents_at(book: &[u8], series: u8) -> Contents
+    ensures { λ r. ⌜ contentsOf r ≡ contentsAt (look (now (book .entry)) series) ⌝ }
 {
     match look_result(book, series) {
-        LookResult::Ok => load_record(look(book, series)),
-        LookResult::Refused(n) => without_series(Status::Refused(n)),
+        LookResult::Ok => read_contents(look(book, series)),
+        LookResult::Refused(_) => no_contents(),
+    }
+}
+
+// The outcome by its fields: 5 is Void, which has no price.
+fn read_outcome(bytes: &[u8]) -> DecisionResult
+    requires { ⌜ length (now bytes) ≡ recordSize ⌝ }
+    ensures { λ r. ⌜ decisionOf r ≡ outcomeIn (now (bytes .entry)) ⌝ }
+{
+    let number = u8_at(bytes, 36);
+    if number == 5 {
+        return DecisionResult::Ok(Decision::Void);
+    }
+    match SettleMethod::try_from(number) {
+        MethodResult::Ok(method) => DecisionResult::Ok(Decision::Settle {
+            method: method,
+            price: StrikeUsd::new(u64_at(bytes, 192)),
+            samples: u16_at(bytes, 10),
+        }),
+        MethodResult::Err(e) => DecisionResult::Err(e),
+    }
+}
+
+// The outcome that stands in the record of a series, or 1; Void where the look is refused.
+pub fn outcome_at(book: &[u8], series: u8) -> DecisionResult
+    ensures { λ r. ⌜ decisionOf r ≡ outcomeAt (look (now (book .entry)) series) ⌝ }
+{
+    match look_result(book, series) {
+        LookResult::Ok => read_outcome(look(book, series)),
+        LookResult::Refused(_) => DecisionResult::Ok(Decision::Void),
     }
 }

@@ -1,12 +1,18 @@
-// Entries for C and Rust, on numbers. A refusal is its number; 255 says that there is none.
+// Entries for C and Rust, on numbers and byte slices. A refusal is its number; of the mean and of
+// acceptance, 255 says that there is none.
 ghost use mathlib.Core.Path.{_≡_};
 ghost use Prim.Native.Nat.{_+_, _*_, _^_};
 ghost use Rattle.rules.specs.Mean.{mean};
 ghost use Rattle.rules.specs.Prints.{accept};
 ghost use Rattle.metalbook_core.specs.Prints.{printResultOf, quoteAt};
-ghost use Rattle.entries.specs.Codes.{codeOf, storedPrice, storedAmount};
+ghost use Rattle.rules.specs.Log.{if_then_else_};
+ghost use Rattle.rules.specs.Book.{answerTo, bookAfter};
+ghost use Rattle.metalbook_core.specs.Uses.{indexOf};
+ghost use Rattle.entries.specs.Codes.{codeOf, storedPrice, storedAmount, placeCode, answerCode, firstAfter, secondAfter, thirdAfter};
+use commands::answer::Answer;
 use metalbook_core::settlement::mean::PriceResult;
 use metalbook_core::settlement::print::PrintResult;
+use metalbook_core::settlement::take::Index;
 
 // The mean of count prices with this sum, stored in price.
 #[no_mangle]
@@ -67,4 +73,68 @@ pub extern "C" fn lanternfold_accept_print(
     };
     *amount = print.price();
     255
+}
+
+// ---- one command on a book
+
+// A place, or 255 for none.
+fn place(i: Index) -> u64
+    ensures { λ r. ⌜ r ≡ placeCode (indexOf i) ⌝ }
+{
+    match i {
+        Index::At(n) => n as u64,
+        Index::None => 255,
+    }
+}
+
+fn one_if(b: bool) -> u64
+    ensures { λ r. ⌜ r ≡ (if b then 1 else 0) ⌝ }
+{
+    if b { 1 } else { 0 }
+}
+
+// Gives the entry to the book: a refusal's number, or 255 Opened, 254 Used, 253 Wait, 252 Settle,
+// 251 Void. Used stores slot, link and fallback in the three numbers, Wait its time in the first,
+// Settle method, price and samples; a number that the answer does not have stays.
+#[no_mangle]
+pub extern "C" fn lanternfold_command(
+    book: &mut [u8],
+    entry: &[u8],
+    first: &mut u64,
+    second: &mut u64,
+    third: &mut u64,
+) -> u8
+    ensures { λ r. ⌜ (r ≡ answerCode (answerTo (now (book .entry)) (now (entry .entry))))
+        × (now (book .exit) ≡ bookAfter (now (book .entry)) (now (entry .entry)))
+        × (now (first .exit) ≡ firstAfter (now (first .entry)) (answerTo (now (book .entry)) (now (entry .entry))))
+        × (now (second .exit) ≡ secondAfter (now (second .entry)) (answerTo (now (book .entry)) (now (entry .entry))))
+        × (now (third .exit) ≡ thirdAfter (now (third .entry)) (answerTo (now (book .entry)) (now (entry .entry)))) ⌝ }
+{
+    match commands::apply::apply(book, entry) {
+        Answer::Opened => 255,
+        Answer::Used(u) => {
+            let slot = u.slot;
+            let link = u.next_print;
+            *first = place(slot);
+            *second = place(link);
+            *third = one_if(u.fallback);
+            254
+        }
+        Answer::Wait { until } => {
+            *first = numbers::bytes::i64_to_bits(until);
+            253
+        }
+        Answer::Settle {
+            method,
+            price,
+            samples,
+        } => {
+            *first = method.number() as u64;
+            *second = price.get();
+            *third = samples as u64;
+            252
+        }
+        Answer::Void => 251,
+        Answer::Refused(n) => n,
+    }
 }

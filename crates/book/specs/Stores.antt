@@ -1,0 +1,58 @@
+-- The fields of a record in the groups that are written, and the book with a record in its place.
+use Prim.Native.Nat.{ℕ}
+use mathlib.Core.List.{List, [], _∷_}
+use lib.IntN.{ℤ, pos}
+use Rattle.rules.specs.Bytes.{Bytes, zeros, concat, bytes, signedBytes}
+use Rattle.rules.specs.Answers as R
+use Rattle.rules.specs.Terms.{Terms}
+use Rattle.rules.specs.State.{Parts}
+use Rattle.rules.specs.Series.{Opening}
+use Rattle.rules.specs.Record.{fields, samplesOf, methodOf, priceOf}
+use Rattle.rules.specs.Book.{look, replaced}
+use Rattle.book.specs.declared.store.Outcome.{Outcome}
+
+-- ---- the groups
+
+abbrev pub headFields : ℕ → Terms → ℕ → ℕ → ℕ → List Bytes
+headFields tag t links bps samples =
+    bytes 1 tag ∷ bytes 1 (t .k) ∷ signedBytes 1 (t .exponent) ∷ bytes 1 links
+    ∷ bytes 2 (t .tolerance) ∷ bytes 2 (t .minimum) ∷ bytes 2 bps ∷ bytes 2 samples ∷ []
+
+abbrev pub secondsFields : Terms → ℕ → ℕ → List Bytes
+secondsFields t bits number =
+    bytes 4 (t .window) ∷ bytes 4 (t .slot) ∷ bytes 4 (t .delay) ∷ bytes 4 (t .lookback) ∷ bytes 4 (t .hard) ∷ bytes 4 bits
+    ∷ bytes 1 number ∷ zeros 3 ∷ []
+
+abbrev pub sumFields : ℤ → ℕ → ℕ → List Bytes
+sumFields E low high = signedBytes 8 E ∷ bytes 8 low ∷ bytes 8 high ∷ []
+
+abbrev pub lastFields : ℤ → ℕ → ℤ → ℤ → ℤ → ℤ → ℕ → List Bytes
+lastFields fallbackTime fallbackPrice windowChanged linkChanged fallbackChanged fixingTime price =
+    signedBytes 8 fallbackTime ∷ bytes 8 fallbackPrice
+    ∷ signedBytes 8 windowChanged ∷ signedBytes 8 linkChanged ∷ signedBytes 8 fallbackChanged
+    ∷ signedBytes 8 fixingTime ∷ bytes 8 price ∷ []
+
+-- ---- the record
+
+abbrev pub recordOf : Opening → Parts → Outcome → Bytes
+recordOf o s u = concat (fields (u .tag) o s (u .samples) (u .method) (u .«fixing_time») (u .price))
+
+-- under tag 1, with no outcome; under tag 2, with the answer and its time
+abbrev pub openRecord : Opening → Parts → Bytes
+openRecord o s = concat (fields 1 o s 0 0 (pos 0) 0)
+
+abbrev pub fixedRecord : Opening → Parts → R.Answer → ℤ → Bytes
+fixedRecord o s a at = concat (fields 2 o s (samplesOf a) (methodOf a) at (priceOf a))
+
+abbrev pub outcomeOf : R.Answer → ℤ → Outcome
+outcomeOf a at = record { tag = 2; samples = samplesOf a; method = methodOf a; «fixing_time» = at; price = priceOf a }
+
+-- ---- the book
+
+-- with the record r of series s where a look at it is allowed
+abbrev pub replacedIf : R.Result Bytes → ℕ → Bytes → Bytes → Bytes
+replacedIf (R.ok bytes) s r book = replaced s r book
+replacedIf (R.refused n) s r book = book
+
+abbrev pub storedBook : ℕ → Bytes → Bytes → Bytes
+storedBook s r book = replacedIf (look book s) s r book

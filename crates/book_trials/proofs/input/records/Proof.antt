@@ -1,0 +1,60 @@
+-- `book_trials::input::records` is safe and ends. The measure is the number of records that are left; the book keeps its length.
+use Prim.Native.Nat.{_-_}
+use mathlib.Core.Path.{_≡_}
+use lib.ListN.{length}
+use borrow.Author.Needs.{needs}
+use Rattle.book_trials.proofs.input.records.Statement.{statement}
+use Rattle.book_trials.proofs.input.records.Tie as tie
+
+abbrev Inv-loop : tie.InvT-loop
+Inv-loop book₀ n i₀ book i = length book ≡ length book₀
+
+abbrev μ-loop : tie.MeasureT-loop
+μ-loop book₀ n i₀ book i = n - i
+
+loop-holds : tie.Need-loop-holds Inv-loop μ-loop
+loop-holds c = search needs
+
+add-i : tie.Need-add-i Inv-loop μ-loop
+add-i c = search needs
+
+record-requires : tie.Need-record-requires Inv-loop μ-loop
+record-requires c κs = search needs
+
+enum-told : tie.Need-enum-told Inv-loop μ-loop
+enum-told c = search needs
+
+loop-less : tie.Need-loop-less Inv-loop μ-loop
+loop-less c = search needs
+
+loop-again : tie.Need-loop-again Inv-loop μ-loop
+loop-again c = search needs
+
+same-length : tie.Need-same-length Inv-loop μ-loop
+same-length c = search needs
+
+returns : tie.Need-returns Inv-loop μ-loop
+returns c = search needs
+
+same-length-2 : tie.Need-same-length-2 Inv-loop μ-loop
+same-length-2 c = search needs
+
+returns-2 : tie.Need-returns-2 Inv-loop μ-loop
+returns-2 c = search needs
+
+pub records-spec : {M : Type 1} → statement M
+records-spec =
+    tie.close
+    (tie.spec
+    Inv-loop
+    μ-loop
+    loop-holds
+    add-i
+    record-requires
+    enum-told
+    loop-less
+    loop-again
+    same-length
+    returns
+    same-length-2
+    returns-2)

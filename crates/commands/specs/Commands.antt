@@ -1,0 +1,25 @@
+-- A command of a series given by itself: 35, 34 and 11 come before the command's own answer.
+use Prim.Native.Nat.{ℕ}
+use mathlib.Core.Path.{_≡_}
+use lib.Dec.{eqb}
+use Rattle.rules.specs.Log.{if_then_else_}
+use Rattle.rules.specs.Bytes.{Bytes}
+use Rattle.rules.specs.Answers.{Answer}
+use Rattle.rules.specs.Series.{Command}
+use Rattle.rules.specs.Book.{recordAt, storedAnswer, written}
+use Rattle.book.specs.declared.record.Status.{Status}
+use Rattle.book.specs.Records.{statusAs, storedAt}
+
+abbrev pub answerAt : Bytes → ℕ → Command → Answer
+answerAt book s c = storedAnswer (storedAt book s) c
+
+abbrev pub afterAt : Bytes → ℕ → Command → Bytes
+afterAt book s c = written s book (storedAt book s) c
+
+-- the record of series s has this status
+abbrev pub Found : Status → Bytes → ℕ → Type 0
+Found st book s = statusAs st (recordAt s book) ≡ storedAt book s
+
+-- the core's number as the book says it: terms out of range make a record that is not acceptable
+abbrev pub inBook : ℕ → ℕ
+inBook n = if eqb n 12 then 11 else n

@@ -1,0 +1,369 @@
+//! The book over the unchanged Rust core: what the proved entry is compared with and measured against.
+use metalbook_core::*;
+
+/// The bytes of a record.
+pub const RECORD: usize = 200;
+
+/// The bytes of a book, which is 64 records.
+pub const BOOK: usize = 12_800;
+
+/// The widths of the commands, by 01.
+pub const OPEN_WIDTH: usize = 38;
+pub const OFFER_WIDTH: usize = 46;
+pub const ASK_WIDTH: usize = 10;
+
+/// The refusals that a book gives by itself.
+const NOT_ACCEPTABLE: u8 = CoreError::InvariantViolated as u8;
+const UNKNOWN_COMMAND: u8 = 32;
+const WRONG_WIDTH: u8 = 33;
+const NO_SUCH_SERIES: u8 = 34;
+const WRONG_BOOK: u8 = 35;
+const SERIES_USED: u8 = 36;
+const SERIES_EMPTY: u8 = 37;
+const SERIES_FIXED: u8 = 38;
+const NOT_YET: u8 = 39;
+
+/// What a command answers.
+#[derive(Clone, Copy, Debug, PartialEq, Eq)]
+pub enum Answer {
+    Opened,
+    Used(PrintUse),
+    Wait { until: i64 },
+    Settle { method: SettleMethod, price: StrikeUsd, samples: u16 },
+    Void,
+    Refused(u8),
+}
+
+impl From<Decision> for Answer {
+    fn from(decision: Decision) -> Self {
+        match decision {
+            Decision::Wait { until } => Self::Wait { until },
+            Decision::Settle { method, price, samples } => Self::Settle { method, price, samples },
+            Decision::Void => Self::Void,
+        }
+    }
+}
+
+/// The terms and candidates of a series.
+pub struct Series {
+    pub params: OracleParams,
+    pub max_conf_bps: u16,
+    pub expiry: UnixTimestamp,
+    pub state: SettlementState,
+}
+
+/// What a fixing stores; an open series has zeros there.
+#[derive(Default, PartialEq, Eq)]
+struct Outcome {
+    method: u8,
+    samples: u16,
+    time: i64,
+    price: u64,
+}
+
+impl Outcome {
+    /// The outcome of a final decision.
+    fn of(decision: Decision, time: i64) -> Option<Self> {
+        match decision {
+            Decision::Wait { .. } => None,
+            Decision::Settle { method, price, samples } => {
+                Some(Self { method: method as u8, samples, time, price: price.get() })
+            }
+            Decision::Void => Some(Self { method: SettleMethod::Void as u8, samples: 0, time, price: 0 }),
+        }
+    }
+}
+
+/// What a record holds; `Bad` where it is not acceptable.
+enum Stored {
+    Bad,
+    Empty,
+    Open(Series),
+    Fixed(Decision),
+}
+
+fn number(e: CoreError) -> u8 {
+    e as u8
+}
+
+// ---- reading and writing a record
+
+/// The N bytes at an offset, which every caller gives as a constant within the array.
+fn at<const N: usize, const M: usize>(bytes: &[u8; M], offset: usize) -> [u8; N] {
+    let mut field = [0; N];
+    field.copy_from_slice(&bytes[offset..offset + N]);
+    field
+}
+
+fn put<const N: usize>(record: &mut [u8; RECORD], offset: usize, field: [u8; N]) {
+    record[offset..offset + N].copy_from_slice(&field);
+}
+
+fn read_params(record: &[u8; RECORD]) -> Result<OracleParams, CoreError> {
+    OracleParams::try_new(
+        u32::from_le_bytes(at(record, 12)),
+        u32::from_le_bytes(at(record, 16)),
+        u16::from_le_bytes(at(record, 4)),
+        u16::from_le_bytes(at(record, 6)),
+        record[1],
+        u32::from_le_bytes(at(record, 20)),
+        u32::from_le_bytes(at(record, 24)),
+        u32::from_le_bytes(at(record, 28)),
+        i8::from_le_bytes(at(record, 2)),
+    )
+}
+
+fn read_parts(record: &[u8; RECORD]) -> SettlementParts {
+    SettlementParts {
+        sample_sum: u128::from_le_bytes(at(record, 48)),
+        filled_slots: u32::from_le_bytes(at(record, 32)),
+        next_times: std::array::from_fn(|i| i64::from_le_bytes(at(record, 64 + 8 * i))),
+        next_prices: std::array::from_fn(|i| u64::from_le_bytes(at(record, 104 + 8 * i))),
+        next_len: record[3],
+        fallback_time: i64::from_le_bytes(at(record, 144)),
+        fallback_price: u64::from_le_bytes(at(record, 152)),
+        window_changed: i64::from_le_bytes(at(record, 160)),
+        next_print_changed: i64::from_le_bytes(at(record, 168)),
+        fallback_changed: i64::from_le_bytes(at(record, 176)),
+    }
+}
+
+fn read_outcome(record: &[u8; RECORD]) -> Outcome {
+    Outcome {
+        method: record[36],
+        samples: u16::from_le_bytes(at(record, 10)),
+        time: i64::from_le_bytes(at(record, 184)),
+        price: u64::from_le_bytes(at(record, 192)),
+    }
+}
+
+/// What an open and a fixed record share, where it is good. Inlined, as `read` and `write` are: a series is large to
+/// hand over.
+#[inline]
+fn read_series(record: &[u8; RECORD]) -> Option<Series> {
+    if record[37..40] != [0; 3] {
+        return None;
+    }
+    let params = read_params(record).ok()?;
+    let Ok(state) = SettlementState::restore(&params, read_parts(record)) else {
+        return None;
+    };
+    let max_conf_bps = u16::from_le_bytes(at(record, 8));
+    let expiry = UnixTimestamp::new(i64::from_le_bytes(at(record, 40)));
+    Some(Series { params, max_conf_bps, expiry, state })
+}
+
+/// The decision at the fixing time, computed again, where it is final and is what stands in the record.
+fn read_fixed(record: &[u8; RECORD]) -> Option<Decision> {
+    let outcome = read_outcome(record);
+    let decision = read_series(record)?.decide(outcome.time).ok()?;
+    (Outcome::of(decision, outcome.time)? == outcome).then_some(decision)
+}
+
+/// What the record holds. The decision is computed for a fixed one only.
+#[inline]
+fn read(record: &[u8; RECORD]) -> Stored {
+    match record[0] {
+        0 if *record == [0; RECORD] => Stored::Empty,
+        1 if read_outcome(record) == Outcome::default() => read_series(record).map_or(Stored::Bad, Stored::Open),
+        2 => read_fixed(record).map_or(Stored::Bad, Stored::Fixed),
+        _ => Stored::Bad,
+    }
+}
+
+impl Series {
+    fn decide(&self, now: i64) -> Result<Decision, CoreError> {
+        self.state.decide(&self.params, self.expiry, now)
+    }
+
+    /// Writes the whole record.
+    #[inline]
+    fn write(&self, record: &mut [u8; RECORD], tag: u8, outcome: &Outcome) {
+        let (terms, parts) = (&self.params, self.state.parts());
+        record[0] = tag;
+        record[1] = terms.k_next_print();
+        put(record, 2, terms.expo().to_le_bytes());
+        record[3] = parts.next_len;
+        put(record, 4, terms.slot_tolerance_s().to_le_bytes());
+        put(record, 6, terms.min_samples().to_le_bytes());
+        put(record, 8, self.max_conf_bps.to_le_bytes());
+        put(record, 10, outcome.samples.to_le_bytes());
+        put(record, 12, terms.window_s().to_le_bytes());
+        put(record, 16, terms.slot_s().to_le_bytes());
+        put(record, 20, terms.challenge_delay_s().to_le_bytes());
+        put(record, 24, terms.fallback_lookback_s().to_le_bytes());
+        put(record, 28, terms.hard_deadline_s().to_le_bytes());
+        put(record, 32, parts.filled_slots.to_le_bytes());
+        record[36] = outcome.method;
+        put(record, 37, [0; 3]);
+        put(record, 40, self.expiry.get().to_le_bytes());
+        put(record, 48, parts.sample_sum.to_le_bytes());
+        for i in 0..MAX_NEXT_PRINTS {
+            put(record, 64 + 8 * i, parts.next_times[i].to_le_bytes());
+            put(record, 104 + 8 * i, parts.next_prices[i].to_le_bytes());
+        }
+        put(record, 144, parts.fallback_time.to_le_bytes());
+        put(record, 152, parts.fallback_price.to_le_bytes());
+        put(record, 160, parts.window_changed.to_le_bytes());
+        put(record, 168, parts.next_print_changed.to_le_bytes());
+        put(record, 176, parts.fallback_changed.to_le_bytes());
+        put(record, 184, outcome.time.to_le_bytes());
+        put(record, 192, outcome.price.to_le_bytes());
+    }
+
+    pub fn write_open(&self, record: &mut [u8; RECORD]) {
+        self.write(record, 1, &Outcome::default());
+    }
+
+    /// Stores the decision at this time and gives it back; 39 where it is not final.
+    pub fn write_fixed(&self, record: &mut [u8; RECORD], now: i64) -> Result<Decision, u8> {
+        let decision = self.decide(now).map_err(number)?;
+        let outcome = Outcome::of(decision, now).ok_or(NOT_YET)?;
+        self.write(record, 2, &outcome);
+        Ok(decision)
+    }
+}
+
+// ---- commands
+
+/// The record of a series, which is the only part of the book that a command reads or writes.
+fn record_of(book: &mut [u8; BOOK], series: u8) -> Result<&mut [u8; RECORD], u8> {
+    let (records, _) = book.as_chunks_mut::<RECORD>();
+    records.get_mut(usize::from(series)).ok_or(NO_SUCH_SERIES)
+}
+
+fn open(book: &mut [u8; BOOK], entry: &[u8; OPEN_WIDTH]) -> Result<Answer, u8> {
+    let record = record_of(book, entry[1])?;
+    match read(record) {
+        Stored::Bad => return Err(NOT_ACCEPTABLE),
+        Stored::Open(_) | Stored::Fixed(_) => return Err(SERIES_USED),
+        Stored::Empty => (),
+    }
+    let params = OracleParams::try_new(
+        u32::from_le_bytes(at(entry, 2)),
+        u32::from_le_bytes(at(entry, 6)),
+        u16::from_le_bytes(at(entry, 10)),
+        u16::from_le_bytes(at(entry, 12)),
+        entry[14],
+        u32::from_le_bytes(at(entry, 15)),
+        u32::from_le_bytes(at(entry, 19)),
+        u32::from_le_bytes(at(entry, 23)),
+        i8::from_le_bytes(at(entry, 27)),
+    )
+    .map_err(number)?;
+    let series = Series {
+        params,
+        max_conf_bps: u16::from_le_bytes(at(entry, 28)),
+        expiry: UnixTimestamp::new(i64::from_le_bytes(at(entry, 30))),
+        state: SettlementState::default(),
+    };
+    series.write_open(record);
+    Ok(Answer::Opened)
+}
+
+fn offer(book: &mut [u8; BOOK], entry: &[u8; OFFER_WIDTH]) -> Result<Answer, u8> {
+    let record = record_of(book, entry[1])?;
+    let mut stored = read(record);
+    let series = match &mut stored {
+        Stored::Bad => return Err(NOT_ACCEPTABLE),
+        Stored::Empty => return Err(SERIES_EMPTY),
+        Stored::Fixed(_) => return Err(SERIES_FIXED),
+        Stored::Open(series) => series,
+    };
+    let print = accept_print(
+        i64::from_le_bytes(at(entry, 10)),
+        u64::from_le_bytes(at(entry, 18)),
+        i32::from_le_bytes(at(entry, 26)),
+        i64::from_le_bytes(at(entry, 30)),
+        i64::from_le_bytes(at(entry, 38)),
+        series.params.expo(),
+        series.max_conf_bps,
+    )
+    .map_err(number)?;
+    let now = i64::from_le_bytes(at(entry, 2));
+    let used = series.state.add_print(&series.params, series.expiry, print, now).map_err(number)?;
+    series.write_open(record);
+    Ok(Answer::Used(used))
+}
+
+fn ask(book: &mut [u8; BOOK], entry: &[u8; ASK_WIDTH]) -> Result<Answer, u8> {
+    let record = record_of(book, entry[1])?;
+    let now = i64::from_le_bytes(at(entry, 2));
+    match &read(record) {
+        Stored::Bad => Err(NOT_ACCEPTABLE),
+        Stored::Empty => Err(SERIES_EMPTY),
+        Stored::Fixed(decision) => Ok(Answer::from(*decision)),
+        Stored::Open(series) => series.decide(now).map(Answer::from).map_err(number),
+    }
+}
+
+fn fix(book: &mut [u8; BOOK], entry: &[u8; ASK_WIDTH]) -> Result<Answer, u8> {
+    let record = record_of(book, entry[1])?;
+    let now = i64::from_le_bytes(at(entry, 2));
+    match &read(record) {
+        Stored::Bad => Err(NOT_ACCEPTABLE),
+        Stored::Empty => Err(SERIES_EMPTY),
+        Stored::Fixed(_) => Err(SERIES_FIXED),
+        Stored::Open(series) => series.write_fixed(record, now).map(Answer::from),
+    }
+}
+
+fn of_width<const N: usize>(entry: &[u8]) -> Result<&[u8; N], u8> {
+    entry.try_into().map_err(|_| WRONG_WIDTH)
+}
+
+fn run(book: &mut [u8], entry: &[u8]) -> Result<Answer, u8> {
+    let book: &mut [u8; BOOK] = book.try_into().map_err(|_| WRONG_BOOK)?;
+    match entry.first().ok_or(WRONG_WIDTH)? {
+        0x01 => open(book, of_width(entry)?),
+        0x02 => offer(book, of_width(entry)?),
+        0x03 => ask(book, of_width(entry)?),
+        0x04 => fix(book, of_width(entry)?),
+        _ => Err(UNKNOWN_COMMAND),
+    }
+}
+
+/// Gives one command, an entry of any bytes, to a book.
+pub fn command(book: &mut [u8], entry: &[u8]) -> Answer {
+    run(book, entry).unwrap_or_else(Answer::Refused)
+}
+
+/// The same through an entry of the proved one's signature.
+///
+/// # Safety
+///
+/// Each pointer is good for its length, and the three numbers can be written.
+pub unsafe extern "C" fn rust_command(
+    book: *mut u8,
+    book_len: usize,
+    entry: *const u8,
+    entry_len: usize,
+    first: *mut u64,
+    second: *mut u64,
+    third: *mut u64,
+) -> u8 {
+    let book = unsafe { std::slice::from_raw_parts_mut(book, book_len) };
+    let entry = unsafe { std::slice::from_raw_parts(entry, entry_len) };
+    let (first, second, third) = unsafe { (&mut *first, &mut *second, &mut *third) };
+    match command(book, entry) {
+        Answer::Opened => 255,
+        Answer::Used(used) => {
+            *first = used.slot.map_or(255, u64::from);
+            *second = used.next_print.map_or(255, u64::from);
+            *third = u64::from(used.fallback);
+            254
+        }
+        Answer::Wait { until } => {
+            *first = until as u64;
+            253
+        }
+        Answer::Settle { method, price, samples } => {
+            *first = method as u64;
+            *second = price.get();
+            *third = u64::from(samples);
+            252
+        }
+        Answer::Void => 251,
+        Answer::Refused(n) => n,
+    }
+}

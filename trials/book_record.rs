@@ -1,0 +1,207 @@
+//! Writes a sample of journals with the Rust's answers to a file, for crates/book_trials to replay; README.md has its
+//! format.
+use super::book::{BOOK, RECORD, rust_command};
+use super::by_hand::{EXPIRY, MAX_CONF_BPS, TERMS, damaged_records, orders, print};
+use super::journals::{
+    Mood, ask_entry, change_field, each_command, fields, fix_entry, next, offer_entry, open_entry, planted, zeroed,
+};
+use super::kinds::{Seen, kind, own_record};
+use super::{BEFORE, Given, Random, give};
+
+/// A journal: the book at its start, and the entries with their answers.
+struct Journal {
+    start: Vec<u8>,
+    book: Vec<u8>,
+    commands: Vec<(Vec<u8>, Given)>,
+    kinds: Vec<String>,
+}
+
+impl Journal {
+    fn on(book: Vec<u8>) -> Self {
+        Self { start: book.clone(), book, commands: Vec::new(), kinds: Vec::new() }
+    }
+
+    fn give(&mut self, entry: Vec<u8>) -> Given {
+        let before = own_record(&self.book, &entry).map(<[u8]>::to_vec);
+        let given = give(rust_command, &mut self.book, &entry);
+        self.kinds.push(kind(before.as_deref(), &entry, given));
+        self.commands.push((entry, given));
+        given
+    }
+
+    fn put(&self, to: &mut Vec<u8>) {
+        to.extend((self.start.len() as u32).to_le_bytes());
+        put_records(to, &self.start);
+        to.extend((self.commands.len() as u16).to_le_bytes());
+        for (entry, (code, numbers)) in &self.commands {
+            to.push(entry.len() as u8);
+            to.extend(entry);
+            to.push(*code);
+            let has = match code {
+                252 | 254 => 3,
+                253 => 1,
+                _ => 0,
+            };
+            for (i, number) in numbers.iter().enumerate() {
+                to.extend(if i < has { *number } else { 0 }.to_le_bytes());
+            }
+        }
+        put_records(to, &self.book);
+    }
+}
+
+/// The records that are not all zero, each after its series; none where the book is not of its length.
+fn put_records(to: &mut Vec<u8>, book: &[u8]) {
+    let used = |record: &[u8]| book.len() == BOOK && record.iter().any(|b| *b != 0);
+    let records: Vec<(usize, &[u8])> = book.chunks(RECORD).enumerate().filter(|(_, record)| used(record)).collect();
+    to.push(records.len() as u8);
+    for (series, record) in records {
+        to.push(series as u8);
+        to.extend(record);
+    }
+}
+
+struct Sample {
+    bytes: Vec<u8>,
+    journals: u32,
+    commands: usize,
+    seen: Seen,
+}
+
+impl Sample {
+    fn keep(&mut self, journal: &Journal) {
+        journal.put(&mut self.bytes);
+        journal.kinds.iter().for_each(|kind| self.seen.add(kind));
+        self.journals += 1;
+        self.commands += journal.commands.len();
+    }
+
+    /// How many of a journal's answers are of kinds that there are too few of.
+    fn wanted(&self, journal: &Journal) -> usize {
+        journal.kinds.iter().filter(|kind| self.seen.wants(kind)).count()
+    }
+
+    fn write(&self, path: &str) {
+        let mut file = b"LFBOOK01".to_vec();
+        file.extend(self.journals.to_le_bytes());
+        file.extend(&self.bytes);
+        std::fs::write(path, &file).unwrap_or_else(|e| panic!("{path}: {e}"));
+        println!("{} journals, {} commands, {} bytes", self.journals, self.commands, file.len());
+    }
+}
+
+/// 01's journal, with the answers that 01 prints.
+fn journal_of_01() -> Journal {
+    let offer = |now: i64, price: i64, published: i64, prev: i64| offer_entry(3, print(now, price, published, prev));
+    let none = BEFORE;
+    let steps = [
+        (open_entry(3, TERMS, MAX_CONF_BPS, EXPIRY), (255, [none; 3])),
+        (offer(1001, 200_000, 962, 959), (254, [0, 255, 1])),
+        (offer(1002, 200_000, 962, 959), (14, [none; 3])),
+        (offer(1003, 200_003, 990, 989), (254, [3, 255, 1])),
+        (ask_entry(3, 1007), (253, [1008, none, none])),
+        (fix_entry(3, 1008), (252, [0, 2_000_015_000, 2])),
+    ];
+    let mut journal = Journal::on(zeroed());
+    for (entry, answer) in steps {
+        assert_eq!(journal.give(entry), answer, "01's journal");
+    }
+    journal
+}
+
+/// Entries that could be refused for two reasons.
+fn journal_of_orders() -> Journal {
+    let (book, entries) = orders();
+    let mut journal = Journal::on(book);
+    for (entry, number) in entries {
+        assert_eq!(journal.give(entry).0, number, "01's order");
+    }
+    journal
+}
+
+/// Records that break one condition, with an open and an ask on each.
+fn damaged_by_hand(sample: &mut Sample) {
+    for some in damaged_records().chunks(16) {
+        let mut book = zeroed();
+        book.chunks_mut(RECORD).zip(some).for_each(|(place, record)| place.copy_from_slice(record));
+        let mut journal = Journal::on(book);
+        for series in 0..some.len() as u8 {
+            journal.give(open_entry(series, TERMS, MAX_CONF_BPS, EXPIRY));
+            journal.give(ask_entry(series, 1105));
+        }
+        sample.keep(&journal);
+    }
+}
+
+/// A journal of hostile entries on this book.
+fn hostile(random: &mut Random, book: Vec<u8>, commands: usize) -> Journal {
+    let mut journal = Journal::on(book);
+    let mood = Mood::new(random);
+    for _ in 0..commands {
+        let entry = next(random, &journal.book, mood);
+        journal.give(entry);
+    }
+    journal
+}
+
+/// A book with acceptable records that no list of prints need leave in the first series.
+fn planted_book(random: &mut Random) -> Vec<u8> {
+    let mut book = zeroed();
+    book.chunks_mut(RECORD).take(4).for_each(|record| record.copy_from_slice(&planted(random)));
+    book
+}
+
+/// Journals on records with one field changed each, and one command of each kind on each.
+fn damaged(random: &mut Random, sample: &mut Sample) {
+    const AT_ONCE: usize = 8;
+    for some in fields().chunks(AT_ONCE) {
+        let mut book = zeroed();
+        for (i, field) in some.iter().enumerate() {
+            let record = &mut book[4 * i * RECORD..][..RECORD];
+            record.copy_from_slice(&planted(random));
+            change_field(random, record, *field);
+        }
+        let mut journal = Journal::on(book);
+        for i in 0..some.len() {
+            for entry in each_command(random, &journal.book, 4 * i as u8) {
+                journal.give(entry);
+            }
+        }
+        sample.keep(&journal);
+    }
+}
+
+fn other_lengths(random: &mut Random, sample: &mut Sample) {
+    for len in [0, 1, RECORD, BOOK - 1, BOOK + 1, 2 * BOOK] {
+        let mut journal = Journal::on(vec![0; len]);
+        let mood = Mood::new(random);
+        for _ in 0..6 {
+            journal.give(next(random, &zeroed(), mood));
+        }
+        journal.give(Vec::new());
+        sample.keep(&journal);
+    }
+}
+
+/// Writes the sample, and says whether every kind of answer is in it as often as wanted.
+pub fn record(path: &str, random: &mut Random) -> bool {
+    let mut sample = Sample { bytes: Vec::new(), journals: 0, commands: 0, seen: Seen::new() };
+    sample.keep(&journal_of_01());
+    sample.keep(&journal_of_orders());
+    other_lengths(random, &mut sample);
+    damaged_by_hand(&mut sample);
+    damaged(random, &mut sample);
+    // Journals that have much of what is short come first.
+    for least in [16, 12, 8, 4, 2, 1] {
+        for turn in 0..20_000 {
+            let commands = 12 + random.below(29) as usize;
+            let book = if turn % 4 == 0 { planted_book(random) } else { zeroed() };
+            let journal = hostile(random, book, commands);
+            if sample.wanted(&journal) >= least {
+                sample.keep(&journal);
+            }
+        }
+    }
+    sample.write(path);
+    sample.seen.report(u64::from)
+}

@@ -1,0 +1,209 @@
+//! What chance rarely brings: records that break one condition of 01's and keep the rest, and entries that could be
+//! refused for two reasons at once.
+use super::book::{Answer, RECORD, command};
+use super::journals::{Offer, ask_entry, fix_entry, offer_entry, open_entry, zeroed};
+use super::record::Terms;
+
+/// 01's terms and expiry.
+pub const TERMS: Terms = (40, 10, 2, 2, 2, 5, 60, 100, -2);
+pub const EXPIRY: i64 = 1000;
+pub const MAX_CONF_BPS: u16 = 100;
+
+/// A print as 01's journal has them.
+pub fn print(now: i64, price: i64, published: i64, prev: i64) -> Offer {
+    Offer { now, price, conf: 0, exponent: -2, published, prev }
+}
+
+/// A print that fills slot 0 and is the fallback, one that fills slot 3, two links, and one that is the fallback only.
+const SLOT_0: (i64, i64) = (962, 959);
+const SLOT_3: (i64, i64) = (990, 989);
+const LINK_0: (i64, i64) = (1001, 1000);
+const LINK_1: (i64, i64) = (1003, 1001);
+const FALLBACK: (i64, i64) = (963, 959);
+
+/// The record that these prints leave, fixed at this time if there is one.
+fn record(terms: Terms, prints: &[(i64, i64)], fixed: Option<i64>) -> [u8; RECORD] {
+    let mut book = zeroed();
+    let mut entries = vec![open_entry(0, terms, MAX_CONF_BPS, EXPIRY)];
+    entries.extend(prints.iter().map(|(published, prev)| offer_entry(0, print(1003, 200_003, *published, *prev))));
+    entries.extend(fixed.map(|now| fix_entry(0, now)));
+    for entry in entries {
+        let answer = command(&mut book, &entry);
+        assert!(!matches!(answer, Answer::Refused(_)), "{answer:?}");
+    }
+    let mut record = [0; RECORD];
+    record.copy_from_slice(&book[..RECORD]);
+    record
+}
+
+/// An offset, a width and the number put there, in a record with k = 3, slots 0 and 3, two links and a fallback. Each
+/// breaks one condition, but for a few that just do not.
+const OPEN_CHANGES: [(usize, usize, u64); 52] = [
+    // The tag.
+    (0, 1, 0),
+    (0, 1, 2),
+    (0, 1, 3),
+    (0, 1, 255),
+    // The terms.
+    (16, 4, 0),
+    (16, 4, 7),
+    (16, 4, 1),
+    (12, 4, 0),
+    (12, 4, 330),
+    (12, 4, 30),
+    (4, 2, 9),
+    (4, 2, 10),
+    (6, 2, 0),
+    (6, 2, 4),
+    (6, 2, 5),
+    (1, 1, 0),
+    (1, 1, 1),
+    (1, 1, 2),
+    (1, 1, 5),
+    (1, 1, 6),
+    (20, 4, 0),
+    (24, 4, 0),
+    (28, 4, 40),
+    (28, 4, 41),
+    (2, 1, 1),
+    (2, 1, 0xf3),
+    (2, 1, 0xf4),
+    // The candidates.
+    (32, 4, 0),
+    (32, 4, 0b1_1001),
+    (32, 4, 1 << 31),
+    (48, 8, 0),
+    (56, 8, 1),
+    (3, 1, 1),
+    (3, 1, 3),
+    (72, 8, 1001),
+    (72, 8, 1000),
+    (72, 8, 1002),
+    (104, 8, 0),
+    (112, 8, 0),
+    (80, 8, 1004),
+    (96, 8, 1),
+    (120, 8, 1),
+    (136, 8, 1),
+    (144, 8, 0),
+    (152, 8, 0),
+    // The rest.
+    (37, 1, 1),
+    (38, 1, 1),
+    (39, 1, 128),
+    (10, 2, 1),
+    (36, 1, 5),
+    (184, 8, 1008),
+    (192, 8, 1),
+];
+
+/// An offset, a width and the number added there, in a record fixed at the first second at which it can be.
+const FIXED_CHANGES: [(usize, usize, u64); 9] = [
+    (0, 1, 1),
+    (0, 1, 255),
+    (10, 2, 1),
+    (10, 2, 0xffff),
+    (36, 1, 1),
+    (36, 1, 255),
+    (184, 8, 1),
+    (184, 8, u64::MAX),
+    (192, 8, 1),
+];
+
+fn number(record: &[u8], at: usize, width: usize) -> u64 {
+    let mut wide = [0; 8];
+    wide[..width].copy_from_slice(&record[at..at + width]);
+    u64::from_le_bytes(wide)
+}
+
+fn changed(record: &[u8; RECORD], at: usize, width: usize, to: u64) -> [u8; RECORD] {
+    let mut copy = *record;
+    copy[at..at + width].copy_from_slice(&to.to_le_bytes()[..width]);
+    copy
+}
+
+/// A record fixed by each method, and a void one.
+pub fn fixed_records() -> [[u8; RECORD]; 6] {
+    [
+        record(TERMS, &[SLOT_0, SLOT_3], Some(1008)),
+        record(TERMS, &[LINK_0, LINK_1], Some(1005)),
+        record(TERMS, &[SLOT_0, LINK_0], Some(1105)),
+        record(TERMS, &[SLOT_0], Some(1105)),
+        record(TERMS, &[FALLBACK], Some(1105)),
+        record(TERMS, &[], Some(1105)),
+    ]
+}
+
+/// The damaged records.
+pub fn damaged_records() -> Vec<[u8; RECORD]> {
+    let open = record((40, 10, 2, 2, 3, 5, 60, 100, -2), &[SLOT_0, SLOT_3, LINK_0, LINK_1], None);
+    let mut all: Vec<[u8; RECORD]> =
+        OPEN_CHANGES.iter().map(|(at, width, to)| changed(&open, *at, *width, *to)).collect();
+    for fixed in fixed_records() {
+        for (at, width, more) in FIXED_CHANGES {
+            all.push(changed(&fixed, at, width, number(&fixed, at, width).wrapping_add(more)));
+        }
+    }
+    // An empty record but for its last byte, and but for its second.
+    all.push(changed(&[0; RECORD], RECORD - 1, 1, 1));
+    all.push(changed(&[0; RECORD], 1, 1, 1));
+    all
+}
+
+/// The series of the book of `orders`: one open, one fixed, one empty, one not acceptable, and one whose window starts
+/// before the first second that there is.
+const OPEN: u8 = 0;
+const FIXED: u8 = 1;
+const EMPTY: u8 = 2;
+const BAD: u8 = 3;
+const EARLY: u8 = 4;
+
+/// A book, and entries that it could refuse for two reasons; each with the number of the first by 01's order.
+pub fn orders() -> (Vec<u8>, Vec<(Vec<u8>, u8)>) {
+    let mut book = zeroed();
+    command(&mut book, &open_entry(OPEN, TERMS, MAX_CONF_BPS, EXPIRY));
+    command(&mut book, &open_entry(EARLY, TERMS, MAX_CONF_BPS, i64::MIN));
+    let records = [(FIXED, fixed_records()[0]), (BAD, changed(&fixed_records()[0], 0, 1, 3))];
+    for (series, record) in records {
+        book[usize::from(series) * RECORD..][..RECORD].copy_from_slice(&record);
+    }
+    let bad_terms = |series: u8| open_entry(series, (40, 7, 2, 2, 2, 5, 60, 100, -2), MAX_CONF_BPS, EXPIRY);
+    let used = print(1003, 200_003, SLOT_0.0, SLOT_0.1);
+    let wrong_price = Offer { price: 0, exponent: -3, ..used };
+    let wrong_exponent = Offer { exponent: -3, conf: 2_001, ..used };
+    let wide = Offer { conf: 2_001, prev: 0, ..used };
+    let wrong_times = Offer { prev: 0, ..used };
+    let unusable = Offer { published: 5, prev: 4, ..used };
+    let mut entries = vec![
+        (vec![0, 64], 32),
+        ([vec![5, 64], vec![0; 36]].concat(), 32),
+        (vec![1, 64], 33),
+        (vec![3], 33),
+        ([vec![4, 255], vec![0; 36]].concat(), 33),
+        (bad_terms(64), 34),
+        (offer_entry(255, wrong_price), 34),
+        (bad_terms(BAD), 11),
+        (open_entry(BAD, TERMS, MAX_CONF_BPS, EXPIRY), 11),
+        (ask_entry(BAD, 0), 11),
+        (fix_entry(BAD, 0), 11),
+        (bad_terms(OPEN), 36),
+        (bad_terms(FIXED), 36),
+        (bad_terms(EMPTY), 12),
+        (fix_entry(EMPTY, 0), 37),
+        (fix_entry(FIXED, 0), 38),
+        (offer_entry(OPEN, wrong_price), 13),
+        (offer_entry(OPEN, wrong_exponent), 16),
+        (offer_entry(OPEN, wide), 17),
+        (offer_entry(EARLY, wrong_times), 13),
+        (offer_entry(EARLY, unusable), 0),
+        (fix_entry(OPEN, 0), 39),
+    ];
+    for print in [wrong_price, wrong_exponent, wide, wrong_times] {
+        entries.extend([
+            (offer_entry(BAD, print), 11),
+            (offer_entry(EMPTY, print), 37),
+            (offer_entry(FIXED, print), 38),
+        ]);
+    }
+    (book, entries)
+}

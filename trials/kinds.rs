@@ -1,0 +1,198 @@
+//! The kinds of answers that a command can give: each must be seen when the sides are compared, and be in the sample.
+use super::Given;
+use super::book::{ASK_WIDTH, Answer, BOOK, OFFER_WIDTH, OPEN_WIDTH, RECORD, command};
+
+/// Every kind, and how many of it the sample has at least.
+pub const KINDS: [(&str, u32); 64] = [
+    ("refused 35", 20),
+    ("refused 33: empty", 6),
+    ("refused 32", 10),
+    ("open refused 33", 6),
+    ("open refused 34", 6),
+    ("open refused 11", 20),
+    ("open refused 36: open", 8),
+    ("open refused 36: fixed", 8),
+    ("open refused 12", 20),
+    ("open Opened", 40),
+    ("offer refused 33", 6),
+    ("offer refused 34", 6),
+    ("offer refused 11", 20),
+    ("offer refused 37", 8),
+    ("offer refused 38", 12),
+    ("offer refused 13: the price", 8),
+    ("offer refused 13: the times", 12),
+    ("offer refused 16", 8),
+    ("offer refused 17", 12),
+    ("offer refused 0: a time", 12),
+    ("offer refused 0: the sum", 4),
+    ("offer refused 14", 60),
+    ("offer Used slot", 20),
+    ("offer Used link", 40),
+    ("offer Used fallback", 30),
+    ("offer Used slot, fallback", 40),
+    ("offer Used slot, link", 4),
+    ("offer Used link, fallback", 4),
+    ("offer Used slot, link, fallback", 4),
+    ("ask refused 33", 6),
+    ("ask refused 34", 6),
+    ("ask refused 11", 20),
+    ("ask refused 37", 8),
+    ("ask refused 0: a time", 8),
+    ("ask refused 0: the price", 8),
+    ("ask Wait for the expiry", 8),
+    ("ask Wait for the deadline", 12),
+    ("ask Wait for a delay", 12),
+    ("ask Settle Window", 10),
+    ("ask Settle NextPrint", 10),
+    ("ask Settle PartialNextPrint", 10),
+    ("ask Settle PartialWindow", 10),
+    ("ask Settle Fallback", 10),
+    ("ask Void", 10),
+    ("ask when fixed Settle Window", 10),
+    ("ask when fixed Settle NextPrint", 10),
+    ("ask when fixed Settle PartialNextPrint", 10),
+    ("ask when fixed Settle PartialWindow", 10),
+    ("ask when fixed Settle Fallback", 10),
+    ("ask when fixed Void", 10),
+    ("fix refused 33", 6),
+    ("fix refused 34", 6),
+    ("fix refused 11", 20),
+    ("fix refused 37", 8),
+    ("fix refused 38", 12),
+    ("fix refused 0: a time", 8),
+    ("fix refused 0: the price", 8),
+    ("fix refused 39", 30),
+    ("fix Settle Window", 10),
+    ("fix Settle NextPrint", 10),
+    ("fix Settle PartialNextPrint", 10),
+    ("fix Settle PartialWindow", 10),
+    ("fix Settle Fallback", 10),
+    ("fix Void", 10),
+];
+
+fn i64_at(b: &[u8], at: usize) -> i64 {
+    i64::from_le_bytes(std::array::from_fn(|i| b[at + i]))
+}
+
+fn u32_at(b: &[u8], at: usize) -> u32 {
+    u32::from_le_bytes(std::array::from_fn(|i| b[at + i]))
+}
+
+fn deadline(record: &[u8]) -> Option<i64> {
+    i64_at(record, 40).checked_add(i64::from(u32_at(record, 28)))
+}
+
+/// Whether a decision that was refused for the record is refused with every price 1 too, whose mean always fits.
+fn is_time(record: &[u8], entry: &[u8]) -> bool {
+    let mut book = [0; BOOK];
+    let at = usize::from(entry[1]) * RECORD;
+    book[at..at + RECORD].copy_from_slice(record);
+    for price in [48, 104, 112, 120, 128, 136, 152] {
+        let bytes = &mut book[at + price..at + price + if price == 48 { 16 } else { 8 }];
+        let one = u8::from(bytes.iter().any(|b| *b != 0));
+        bytes.fill(0);
+        bytes[0] = one;
+    }
+    command(&mut book, entry) == Answer::Refused(0)
+}
+
+/// The refusal's number, and why where one number has several reasons.
+fn refused(record: &[u8], entry: &[u8], number: u8) -> String {
+    let fits = |at: usize| i64_at(record, 40).checked_sub(i64::from(u32_at(record, at))).is_some();
+    let why = match (number, entry[0]) {
+        (36, _) => [": open", ": fixed"][usize::from(record[0] == 2)],
+        (13, _) => [": the times", ": the price"][usize::from(i64_at(entry, 10) <= 0)],
+        (0, 2) => [": a time", ": the sum"][usize::from(fits(12) && fits(24))],
+        (0, _) => [": the price", ": a time"][usize::from(is_time(record, entry))],
+        _ => "",
+    };
+    format!("refused {number}{why}")
+}
+
+fn used(numbers: [u64; 3]) -> String {
+    let names = [(numbers[0] != 255, "slot"), (numbers[1] != 255, "link"), (numbers[2] != 0, "fallback")];
+    let uses: Vec<&str> = names.iter().filter(|n| n.0).map(|n| n.1).collect();
+    format!("Used {}", uses.join(", "))
+}
+
+fn wait(record: &[u8], until: i64) -> &'static str {
+    if until == i64_at(record, 40) {
+        "Wait for the expiry"
+    } else if Some(until) == deadline(record) {
+        "Wait for the deadline"
+    } else {
+        "Wait for a delay"
+    }
+}
+
+/// The kind of an answer to an entry; the record is the series' before it, where the entry names one.
+pub fn kind(record: Option<&[u8]>, entry: &[u8], given: Given) -> String {
+    let (code, numbers) = given;
+    match (code, entry.first()) {
+        (35 | 32, _) => return format!("refused {code}"),
+        (33, None) => return "refused 33: empty".into(),
+        _ => (),
+    }
+    let name = ["", "open", "offer", "ask", "fix"][usize::from(entry[0])];
+    let Some(record) = record else {
+        return format!("{name} refused {code}");
+    };
+    let answer = match code {
+        255 => "Opened".into(),
+        254 => used(numbers),
+        253 => wait(record, numbers[0] as i64).into(),
+        252 => format!("Settle {}", METHODS[numbers[0] as usize]),
+        251 => "Void".into(),
+        _ => refused(record, entry, code),
+    };
+    let when = if entry[0] == 3 && record[0] == 2 && code > 250 { " when fixed" } else { "" };
+    format!("{name}{when} {answer}")
+}
+
+const METHODS: [&str; 5] = ["Window", "NextPrint", "PartialNextPrint", "PartialWindow", "Fallback"];
+
+/// The record of the series that a command names, where it is of its width and there is such a series.
+pub fn own_record<'a>(book: &'a [u8], entry: &[u8]) -> Option<&'a [u8]> {
+    let width = match entry.first()? {
+        1 => OPEN_WIDTH,
+        2 => OFFER_WIDTH,
+        3 | 4 => ASK_WIDTH,
+        _ => return None,
+    };
+    let at = usize::from(*entry.get(1)?) * RECORD;
+    if entry.len() == width && book.len() == BOOK { book.get(at..at + RECORD) } else { None }
+}
+
+/// How often each kind was seen.
+pub struct Seen([u64; KINDS.len()]);
+
+impl Seen {
+    pub fn new() -> Self {
+        Self([0; KINDS.len()])
+    }
+
+    pub fn add(&mut self, kind: &str) {
+        self.0[index(kind)] += 1;
+    }
+
+    /// Prints the counts, and says whether each kind was seen as often as wanted.
+    pub fn report(&self, wanted: impl Fn(u32) -> u64) -> bool {
+        let mut good = true;
+        for ((name, least), seen) in KINDS.iter().zip(self.0) {
+            let is_short = seen < wanted(*least);
+            println!("{seen:9} {name}{}", if is_short { "   TOO FEW" } else { "" });
+            good &= !is_short;
+        }
+        good
+    }
+
+    /// Whether there are fewer of this kind than the sample has at least.
+    pub fn wants(&self, kind: &str) -> bool {
+        let at = index(kind);
+        self.0[at] < u64::from(KINDS[at].1)
+    }
+}
+
+fn index(kind: &str) -> usize {
+    KINDS.iter().position(|k| k.0 == kind).unwrap_or_else(|| panic!("no kind of answer: {kind}"))
+}
