@@ -8,7 +8,8 @@ use lib.ListN.{length, take, drop, length-drop}
 use lib.Seq.{length-take-le}
 use lib.IntN.{ℤ}
 use lib.Dec.{ltb, eqb}
-use borrow.Author.Tests.{ltb-true, ne-eqb, eqb-true, eq-eqb}
+use lib.Arith.{lt-of-le-ne}
+use borrow.Author.Tests.{ltb-true, ltb-false, eq-eqb, ne-eqb, eqb-true, eqb-false}
 use borrow.Rule.Slice.PartMut.{putMid, post-is}
 use Rattle.rules.specs.Log.{if_then_else_, every}
 use Rattle.rules.specs.Bytes.{Bytes, allZero, little, unsignedAt, signedAt}
@@ -24,7 +25,7 @@ use Rattle.metalbook_core.specs.States.{valueOr}
 use Rattle.book.specs.declared.look.LookResult.the-variants as L
 use Rattle.book.specs.declared.record.Status.the-variants as S
 use Rattle.book.specs.Looks.{lookResultOf}
-use Rattle.book.specs.Records.{goodBody, statusAs}
+use Rattle.book.specs.Records.{goodBody, statusAs, statusOf, statusIn, storedIn, storedAt}
 
 -- ---- a look
 
@@ -133,6 +134,36 @@ module _ (bs : Bytes) where
   unfolding openingIn
   decided-is et eE es ea = λ i. decide (et i) (eE i) (candidatesOf (es i)) (ea i)
 
+  -- what is stored, by the status
+  pub status-stored : statusAs (statusOf bs) bs ≡ stored bs
+  status-stored = go (eqb (tagIn bs) 0) (ltb 2 (tagIn bs)) (eqb (unsignedAt bs 37 3) 0) (eqb (tagIn bs) 1) refl refl refl refl
+    where
+      zero-tag : (b : Bool) → tagIn bs ≡ 0 → allZero bs ≡ b → statusAs (if b then S.Empty else S.Refused 11) bs ≡ stored bs
+      zero-tag true t e = sym (stored-zero true t e)
+      zero-tag false t e = sym (stored-zero false t e)
+
+      one-tag : (b : Bool) → tagIn bs ≡ 1 → unsignedAt bs 37 3 ≡ 0 → every (openTests bs) ≡ b → statusAs (if b then S.Open else S.Refused 11) bs ≡ stored bs
+      one-tag true t p e = open-status true t p e
+      one-tag false t p e = open-status false t p e
+
+      two-tag : (b : Bool) → tagIn bs ≡ 2 → unsignedAt bs 37 3 ≡ 0 → b ≡ goodBody bs && every (fixedTests bs) → statusAs (if b then S.Fixed else S.Refused 11) bs ≡ stored bs
+      two-tag true t p e = fixed-status true t p e
+      two-tag false t p e = fixed-status false t p e
+
+      go : (x y p z : Bool) → eqb (tagIn bs) 0 ≡ x → ltb 2 (tagIn bs) ≡ y → eqb (unsignedAt bs 37 3) 0 ≡ p → eqb (tagIn bs) 1 ≡ z
+          → statusAs (if x then (if allZero bs then S.Empty else S.Refused 11) else (if y then S.Refused 11 else (if not p then S.Refused 11 else
+          (if z then (if every (openTests bs) then S.Open else S.Refused 11) else (if goodBody bs && every (fixedTests bs) then S.Fixed else S.Refused 11))))) bs ≡ stored bs
+      go true y p z ex ey ep ez = zero-tag (allZero bs) (eqb-true (tagIn bs) 0 ex) refl
+      go false true p z ex ey ep ez = sym (stored-above (ltb-true 2 (tagIn bs) ey))
+      go false false false z ex ey ep ez = sym (stored-spoilt (eqb-false (tagIn bs) 0 ex) (not-padded ep))
+      go false false true true ex ey ep ez = one-tag (every (openTests bs)) (eqb-true (tagIn bs) 1 ez) (eqb-true (unsignedAt bs 37 3) 0 ep) refl
+      go false false true false ex ey ep ez =
+          let small = ltb-false 2 (tagIn bs) ey in
+          let some : 0 < tagIn bs = lt-of-le-ne (omega arith) (λ e. eqb-false (tagIn bs) 0 ex (sym e)) in
+          let more : 1 < tagIn bs = lt-of-le-ne (omega arith) (λ e. eqb-false (tagIn bs) 1 ez (sym e)) in
+          let two : tagIn bs ≡ 2 = omega arith in
+          two-tag (goodBody bs && every (fixedTests bs)) two (eqb-true (unsignedAt bs 37 3) 0 ep) refl
+
 -- ---- bytes that are all zero, eight at a time
 
 pub zero-word : (n : ℕ) (bs : Bytes) → little (take n bs) ≡ 0 → allZero bs ≡ allZero (drop n bs)
@@ -176,3 +207,15 @@ method-back n m e = go (eqb n 0) (eqb n 1) (eqb n 2) (eqb n 3) (eqb n 4) (eqb n 
     go false false false false true g p q r s t u e = same Method.Fallback e (sym (eqb-true n 4 t))
     go false false false false false true p q r s t u e = same Method.Void e (sym (eqb-true n 5 u))
     go false false false false false false p q r s t u e = cc
+
+-- ---- a record of the book, by the status of a look
+
+pub status-found : (book : Bytes) (s : ℕ) → statusAs (statusIn (look book s)) (recordAt s book) ≡ storedAt book s
+unfolding look
+status-found book s = go (eqb (length book) bookSize) (ltb s seriesCount)
+  where
+    go : (b d : Bool) → statusAs (statusIn (if not b then refused 35 else (if not d then refused 34 else ok (recordAt s book)))) (recordAt s book)
+        ≡ storedIn (if not b then refused 35 else (if not d then refused 34 else ok (recordAt s book)))
+    go true true = status-stored (recordAt s book)
+    go true false = refl
+    go false d = refl

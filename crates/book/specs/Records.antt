@@ -1,14 +1,15 @@
 -- What was found in a record, read as the rules' series.
 use Prim.Native.Nat.{ℕ}
-use mathlib.Core.Bool.{Bool, _&&_}
+use mathlib.Core.Bool.{Bool, not, _&&_}
 use lib.IntN.{ℤ, pos}
-use Rattle.rules.specs.Log.{if_then_else_}
-use Rattle.rules.specs.Bytes.{Bytes}
+use lib.Dec.{ltb, eqb}
+use Rattle.rules.specs.Log.{if_then_else_, every}
+use Rattle.rules.specs.Bytes.{Bytes, allZero, unsignedAt}
 use Rattle.rules.specs.Answers as R
 use Rattle.rules.specs.Terms.{goodTerms}
 use Rattle.rules.specs.State.{Parts, partsOf, candidatesOf, goodState}
 use Rattle.rules.specs.Series.{Opening, Series, empty, live, fixed, noCandidates}
-use Rattle.rules.specs.Record.{outcome, openingIn, partsIn, methodIn, samplesIn, fixingTimeIn, priceIn, stored}
+use Rattle.rules.specs.Record.{outcome, openingIn, partsIn, tagIn, methodIn, samplesIn, fixingTimeIn, priceIn, openTests, fixedTests, stored}
 use Rattle.rules.specs.Book.{look}
 use Rattle.metalbook_core.specs.declared.settlement.params.OracleParams.{OracleParams}
 use Rattle.metalbook_core.specs.Params.{termsOf}
@@ -34,7 +35,21 @@ statusAs S.Open bs = if goodBody bs then R.ok (live (openingIn bs) (candidatesOf
 statusAs S.Fixed bs = R.ok (fixed (openingIn bs) (candidatesOf (partsIn bs)) (outcomeIn bs) (fixingTimeIn bs))
 statusAs (S.Refused r) bs = R.refused r
 
+-- the status of a record's bytes
+abbrev pub statusOf : Bytes → Status
+statusOf bs =
+    if eqb (tagIn bs) 0 then (if allZero bs then S.Empty else S.Refused 11) else
+    if ltb 2 (tagIn bs) then S.Refused 11 else
+    if not (eqb (unsignedAt bs 37 3) 0) then S.Refused 11 else
+    if eqb (tagIn bs) 1 then (if every (openTests bs) then S.Open else S.Refused 11) else
+    if goodBody bs && every (fixedTests bs) then S.Fixed else S.Refused 11
+
 -- ---- a record of the book
+
+-- the status of the record that a look gave, or the look's refusal
+abbrev pub statusIn : R.Result Bytes → Status
+statusIn (R.ok bytes) = statusOf bytes
+statusIn (R.refused r) = S.Refused r
 
 -- the series of a record's bytes that a look gave, or the look's refusal
 abbrev pub storedIn : R.Result Bytes → R.Result Series

@@ -6,12 +6,12 @@ ghost use Rattle.rules.specs.Log.{every};
 ghost use Rattle.rules.specs.Bytes.{allZero};
 ghost use Rattle.rules.specs.Terms.{goodTerms};
 ghost use Rattle.rules.specs.State.{goodState};
-ghost use Rattle.rules.specs.Record.{recordSize, openingIn, partsIn, openTests, fixedTests, outcomeTests, standing, stored};
-ghost use Rattle.rules.specs.Book.{recordAt, look};
+ghost use Rattle.rules.specs.Record.{recordSize, openingIn, partsIn, openTests, fixedTests, outcomeTests, standing};
+ghost use Rattle.rules.specs.Book.{look};
 ghost use Rattle.metalbook_core.specs.Params.{termsOf};
 ghost use Rattle.metalbook_core.specs.States.{stateOf};
 ghost use Rattle.metalbook_core.specs.Decisions.{answerOf, decisionOf};
-ghost use Rattle.book.specs.Records.{goodBody, statusAs, storedAt, contentsOf, contentsIn, noContents, contentsAt, outcomeIn, outcomeAt};
+ghost use Rattle.book.specs.Records.{goodBody, statusOf, statusIn, contentsOf, contentsIn, noContents, contentsAt, outcomeIn, outcomeAt};
 use crate::fields::i8_at;
 use crate::fields::i64_at;
 use crate::fields::u8_at;
@@ -194,7 +194,7 @@ fn is_fixed(bytes: &[u8]) -> bool
 // A record's 200 bytes.
 fn status_of(bytes: &[u8]) -> Status
     requires { ⌜ length (now bytes) ≡ recordSize ⌝ }
-    ensures { λ r. ⌜ statusAs r (now (bytes .entry)) ≡ stored (now (bytes .entry)) ⌝ }
+    ensures { λ r. ⌜ r ≡ statusOf (now (bytes .entry)) ⌝ }
 {
     let tag = u8_at(bytes, 0);
     if tag == 0 {
@@ -224,7 +224,7 @@ fn status_of(bytes: &[u8]) -> Status
 // What the record of a series is: 35, 34, and 11 where it is not acceptable. The terms and the
 // state of an open record are not tested yet: the core's calls test them.
 pub fn status_at(book: &[u8], series: u8) -> Status
-    ensures { λ r. ⌜ statusAs r (recordAt series (now (book .entry))) ≡ storedAt (now (book .entry)) series ⌝ }
+    ensures { λ r. ⌜ r ≡ statusIn (look (now (book .entry)) series) ⌝ }
 {
     match look_result(book, series) {
         LookResult::Ok => status_of(look(book, series)),

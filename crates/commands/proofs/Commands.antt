@@ -22,15 +22,16 @@ use Rattle.metalbook_core.specs.States.{stateOf}
 use Rattle.book.specs.declared.record.Status.{Status}
 use Rattle.book.specs.declared.record.Status.the-variants as S
 use Rattle.book.specs.declared.record.Contents.{Contents}
-use Rattle.book.specs.Records.{goodBody, statusAs, storedIn, storedAt, openingOf, contentsOf, contentsIn, contentsAt, outcomeIn, outcomeAt}
+use Rattle.book.specs.Records.{goodBody, statusAs, statusIn, storedIn, storedAt, openingOf, contentsOf, contentsIn, contentsAt, outcomeIn, outcomeAt}
 use Rattle.book.specs.Stores.{openRecord, fixedRecord, replacedIf, storedBook}
+use Rattle.book.proofs.Records.{status-found}
 use Rattle.commands.specs.Commands.{Found, answerAt, afterAt}
 
 -- ---- the status says what is stored
 
-module _ (book : Bytes) (s : ℕ) {r st : Status} (h : Found r book s) (e : r ≡ st) where
+module _ (book : Bytes) (s : ℕ) {r st : Status} (h : r ≡ statusIn (look book s)) (e : r ≡ st) where
   pub found : Found st book s
-  found = ap (λ (x : Status). statusAs x (recordAt s book)) (sym e) ∙ h
+  found = ap (λ (x : Status). statusAs x (recordAt s book)) (sym e ∙ h) ∙ status-found book s
 
   pub answered : (c : Command) → storedAnswer (statusAs st (recordAt s book)) c ≡ answerAt book s c
   answered c = ap (λ (x : Result Series). storedAnswer x c) found

@@ -1,9 +1,8 @@
 use mathlib.Core.Path.{_≡_, sym, ap, _∙_}
-use Rattle.rules.specs.Record.{stored}
 use Rattle.rules.specs.Book.{look}
 use Rattle.book.specs.declared.look.LookResult.the-variants as L
 use Rattle.book.specs.Looks.{lookResultOf}
-use Rattle.book.specs.Records.{statusAs, storedIn}
+use Rattle.book.specs.Records.{statusOf, statusIn}
 use Rattle.book.proofs.Records.{refused-look, looked, part-looked}
 use borrow.Author.Needs.{needs}
 use Rattle.book.proofs.record.status_at.Statement.{statement}
@@ -35,14 +34,13 @@ returns c =
     let k = c .before in
     let a = k .before .before .before .before .before .args in
     let book = a .book .now in
-    let p = part-looked book (a .series) (allowed (k .before)) (k .look .ensures) .0 in
-    ap (statusAs (c .status-of .result)) (sym p) ∙ c .status-of .ensures ∙ ap stored p ∙ sym (ap storedIn (looked book (a .series) (allowed (k .before))))
+    c .status-of .ensures ∙ ap statusOf (part-looked book (a .series) (allowed (k .before)) (k .look .ensures) .0) ∙ sym (ap statusIn (looked book (a .series) (allowed (k .before))))
 
 returns-2 : tie.Need-returns-2
 returns-2 c =
     let t = c .before in
     let a = t .before .before .before .before .args in
-    sym (ap storedIn (refused-look (look (a .book .now) (a .series)) (t .n .given .0 .0) (sym (t .n .given .1) ∙ t .before .before .look-result .ensures)))
+    sym (ap statusIn (refused-look (look (a .book .now) (a .series)) (t .n .given .0 .0) (sym (t .n .given .1) ∙ t .before .before .look-result .ensures)))
 
 pub status-at-spec : {M : Type 1} → statement M
 status-at-spec =
