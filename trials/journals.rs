@@ -1,6 +1,6 @@
 //! Hostile journals: each entry is chosen by what the book holds, at the few seconds where an answer changes.
 use super::book::{BOOK, RECORD, Series};
-use super::record::{self, TERMS, Terms, params};
+use super::record::{self, TERMS, Terms, params, terms_bytes};
 use super::{BPS, Random, TIMES, confidences};
 use metalbook_core::UnixTimestamp;
 
@@ -8,15 +8,7 @@ use metalbook_core::UnixTimestamp;
 
 pub fn open_entry(series: u8, t: Terms, max_conf_bps: u16, expiry: i64) -> Vec<u8> {
     let mut entry = vec![1, series];
-    entry.extend(t.0.to_le_bytes());
-    entry.extend(t.1.to_le_bytes());
-    entry.extend(t.2.to_le_bytes());
-    entry.extend(t.3.to_le_bytes());
-    entry.push(t.4);
-    entry.extend(t.5.to_le_bytes());
-    entry.extend(t.6.to_le_bytes());
-    entry.extend(t.7.to_le_bytes());
-    entry.extend(t.8.to_le_bytes());
+    entry.extend(terms_bytes(t));
     entry.extend(max_conf_bps.to_le_bytes());
     entry.extend(expiry.to_le_bytes());
     entry

@@ -182,16 +182,33 @@ impl Sample {
     }
 }
 
+/// The 26 bytes of terms, good or not: in a sample, and in an open.
+pub fn terms_bytes(t: Terms) -> Vec<u8> {
+    let mut bytes = Vec::new();
+    bytes.extend(t.0.to_le_bytes());
+    bytes.extend(t.1.to_le_bytes());
+    bytes.extend(t.2.to_le_bytes());
+    bytes.extend(t.3.to_le_bytes());
+    bytes.push(t.4);
+    bytes.extend(t.5.to_le_bytes());
+    bytes.extend(t.6.to_le_bytes());
+    bytes.extend(t.7.to_le_bytes());
+    bytes.extend(t.8.to_le_bytes());
+    bytes
+}
+
 fn put_terms(to: &mut Vec<u8>, t: &OracleParams) {
-    to.extend(t.window_s().to_le_bytes());
-    to.extend(t.slot_s().to_le_bytes());
-    to.extend(t.slot_tolerance_s().to_le_bytes());
-    to.extend(t.min_samples().to_le_bytes());
-    to.push(t.k_next_print());
-    to.extend(t.challenge_delay_s().to_le_bytes());
-    to.extend(t.fallback_lookback_s().to_le_bytes());
-    to.extend(t.hard_deadline_s().to_le_bytes());
-    to.extend(t.expo().to_le_bytes());
+    to.extend(terms_bytes((
+        t.window_s(),
+        t.slot_s(),
+        t.slot_tolerance_s(),
+        t.min_samples(),
+        t.k_next_print(),
+        t.challenge_delay_s(),
+        t.fallback_lookback_s(),
+        t.hard_deadline_s(),
+        t.expo(),
+    )));
 }
 
 fn put_parts(to: &mut Vec<u8>, p: &SettlementParts) {
@@ -678,15 +695,7 @@ fn new_params(random: &mut Random) -> (String, Vec<u8>) {
     let name = strained(random, &mut t);
     let answer = params(t);
     let mut record = vec![6];
-    record.extend(t.0.to_le_bytes());
-    record.extend(t.1.to_le_bytes());
-    record.extend(t.2.to_le_bytes());
-    record.extend(t.3.to_le_bytes());
-    record.push(t.4);
-    record.extend(t.5.to_le_bytes());
-    record.extend(t.6.to_le_bytes());
-    record.extend(t.7.to_le_bytes());
-    record.extend(t.8.to_le_bytes());
+    record.extend(terms_bytes(t));
     record.push(code(&answer));
     (answer.map_or_else(|e| format!("refused {}: {name}", e as u8), |_| "value".into()), record)
 }
