@@ -1,7 +1,7 @@
 -- The fields of a record in the groups that are written, and the book with a record in its place.
 use Prim.Native.Nat.{ℕ}
 use mathlib.Core.List.{List, [], _∷_}
-use lib.IntN.{ℤ, pos}
+use lib.IntN.{ℤ}
 use Rattle.rules.specs.Bytes.{Bytes, zeros, concat, bytes, signedBytes}
 use Rattle.rules.specs.Answers as R
 use Rattle.rules.specs.Terms.{Terms}
@@ -36,13 +36,6 @@ lastFields fallbackTime fallbackPrice windowChanged linkChanged fallbackChanged 
 
 abbrev pub recordOf : Opening → Parts → Outcome → Bytes
 recordOf o s u = concat (fields (u .tag) o s (u .samples) (u .method) (u .«fixing_time») (u .price))
-
--- under tag 1, with no outcome; under tag 2, with the answer and its time
-abbrev pub openRecord : Opening → Parts → Bytes
-openRecord o s = concat (fields 1 o s 0 0 (pos 0) 0)
-
-abbrev pub fixedRecord : Opening → Parts → R.Answer → ℤ → Bytes
-fixedRecord o s a at = concat (fields 2 o s (samplesOf a) (methodOf a) at (priceOf a))
 
 abbrev pub outcomeOf : R.Answer → ℤ → Outcome
 outcomeOf a at = record { tag = 2; samples = samplesOf a; method = methodOf a; «fixing_time» = at; price = priceOf a }

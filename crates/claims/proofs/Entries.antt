@@ -4,7 +4,9 @@ use mathlib.Core.Path.{_≡_, refl, fun-ext}
 use mathlib.Core.Bool.{Bool, true, false, _&&_}
 use mathlib.Core.Option.{none, some}
 use mathlib.Core.List.{[], _∷_}
-use lib.ListN.{length, drop}
+use lib.ListN.{length, getD, drop}
+use mir.Syntax.{w8}
+use mir.Val.{Fits}
 use lib.Dec.{ltb, eqb}
 use borrow.Author.Tests.{lt-ltb}
 use Rattle.rules.proofs.Bools.{both, every-at}
@@ -20,6 +22,11 @@ use Rattle.rules.specs.Entries.{Entry, noCommand, command, openingAt, quoteAt, 
 use Rattle.rules.specs.Ledger.{ledger, commandTo, commandsTo, ledgers}
 
 -- ---- fields of bytes fit
+
+-- what a slice of bytes holds
+pub are-bytes : (bs : Bytes) → ((i : ℕ) → Fits w8 (getD bs i 0)) → areBytes bs ≡ true
+are-bytes [] h = refl
+are-bytes (b ∷ bs) h = rw (lt-ltb b 256 (h 0 .fits), are-bytes bs (λ i. h (suc i)))
 
 pub drop-bytes : (n : ℕ) (bs : Bytes) → areBytes bs ≡ true → areBytes (drop n bs) ≡ true
 drop-bytes zero bs h = h

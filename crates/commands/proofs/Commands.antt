@@ -12,7 +12,7 @@ use Rattle.rules.specs.Terms.{goodTerms}
 use Rattle.rules.specs.Taking.{Candidates}
 use Rattle.rules.specs.State.{Parts, candidatesOf, partsOf, goodState}
 use Rattle.rules.specs.Series.{Command, Open, Fix, Opening, Series, empty, live, noCandidates, decided, step}
-use Rattle.rules.specs.Record.{bookSize, seriesCount, bytesOf, openingIn, partsIn}
+use Rattle.rules.specs.Record.{bookSize, seriesCount, openRecord, fixedRecord, bytesOf, openingIn, partsIn}
 use Rattle.rules.specs.Book.{recordAt, look, replaced, storedAnswer, written}
 use Rattle.rules.proofs.State.{parts-kept}
 use Rattle.metalbook_core.specs.declared.settlement.decide.Decision.{Decision}
@@ -23,7 +23,7 @@ use Rattle.book.specs.declared.record.Status.{Status}
 use Rattle.book.specs.declared.record.Status.the-variants as S
 use Rattle.book.specs.declared.record.Contents.{Contents}
 use Rattle.book.specs.Records.{goodBody, statusAs, statusIn, storedIn, storedAt, openingOf, contentsOf, contentsIn, contentsAt, outcomeIn, outcomeAt}
-use Rattle.book.specs.Stores.{openRecord, fixedRecord, replacedIf, storedBook}
+use Rattle.book.specs.Stores.{replacedIf, storedBook}
 use Rattle.book.proofs.Records.{status-found}
 use Rattle.commands.specs.Commands.{Found, answerAt, afterAt}
 
@@ -50,9 +50,12 @@ stored-allowed book s held r e = go (look book s) e
 
 -- ---- an open record, by what was read of it
 
--- what is stored, where the terms and the state are still to be tested
+-- what is stored, by the tests of the terms and of the state, which are still to be made
+abbrev pub testedAs : Bool → Opening → Parts → Result Series
+testedAs b o p = if b then ok (live o (candidatesOf p)) else refused 11
+
 abbrev pub tested : Opening → Parts → Result Series
-tested o p = if goodTerms (o .terms) && goodState (o .terms) p then ok (live o (candidatesOf p)) else refused 11
+tested o p = testedAs (goodTerms (o .terms) && goodState (o .terms) p) o p
 
 module _ (book : Bytes) (s : ℕ) (h : Found S.Open book s) where
   -- it is refused with 11 alone, so the look was allowed
@@ -85,13 +88,13 @@ module _ (book : Bytes) (s : ℕ) (h : Found S.Open book s) where
         parts-kept (openingOf c .terms) (stateOf (c .state)) g (ap (λ (p : Parts). length (p .times)) e) (ap (λ (p : Parts). length (p .prices)) e)
 
     module _ {b : Bool} (g : goodTerms (openingOf c .terms) && goodState (openingOf c .terms) (stateOf (c .state)) ≡ b) where
-      pub by-test : (if b then ok (live (openingOf c) (candidatesOf (stateOf (c .state)))) else refused 11) ≡ storedAt book s
+      pub by-test : (testedAs b (openingOf c) (stateOf (c .state))) ≡ storedAt book s
       by-test = ap (λ (x : Bool). if x then ok (live (openingOf c) (candidatesOf (stateOf (c .state)))) else refused 11) (sym g) ∙ open-found
 
-      pub answered-by : (d : Command) → storedAnswer (if b then ok (live (openingOf c) (candidatesOf (stateOf (c .state)))) else refused 11) d ≡ answerAt book s d
+      pub answered-by : (d : Command) → storedAnswer (testedAs b (openingOf c) (stateOf (c .state))) d ≡ answerAt book s d
       answered-by d = ap (λ (x : Result Series). storedAnswer x d) by-test
 
-      pub left-by : (d : Command) → written s book (if b then ok (live (openingOf c) (candidatesOf (stateOf (c .state)))) else refused 11) d ≡ afterAt book s d
+      pub left-by : (d : Command) → written s book (testedAs b (openingOf c) (stateOf (c .state))) d ≡ afterAt book s d
       left-by d = ap (λ (x : Result Series). written s book x d) by-test
 
 -- ---- a fixed record: a look at it is allowed too

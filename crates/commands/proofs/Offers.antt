@@ -11,13 +11,13 @@ use Rattle.rules.specs.Bytes.{Bytes}
 use Rattle.rules.specs.Answers.{Result, ok, refused, Answer, Used, Refused, isUsed}
 use Rattle.rules.specs.Terms.{goodTerms}
 use Rattle.rules.specs.Prints.{Print, goodPrint, newPrint, Quote, eqZ, accept}
-use Rattle.rules.specs.Taking.{Candidates, usable, timesFit, sumFits, printAnswer}
-use Rattle.rules.specs.State.{Parts, candidatesOf, partsOf, goodState, offerAnswer, offerPlaced, offerCall, offerState}
+use Rattle.rules.specs.Taking.{Candidates, usable, timesFit, sumFits, printAnswer, offerAnswer, offerPlaced}
+use Rattle.rules.specs.State.{Parts, candidatesOf, partsOf, goodState, offerCall, offerState}
 use Rattle.rules.specs.Series.{Opening, Offer, Series, live, leaves, step}
-use Rattle.rules.specs.Record.{bytesOf}
+use Rattle.rules.specs.Record.{openRecord, bytesOf}
 use Rattle.rules.specs.Book.{replaced, storedAnswer, written}
-use Rattle.book.specs.Stores.{openRecord}
 use Rattle.commands.specs.Commands.{inBook}
+use Rattle.commands.proofs.Commands.{testedAs, tested}
 
 -- ---- acceptance and the core don't refuse with 12
 
@@ -56,10 +56,6 @@ module _ (book : Bytes) (s : ℕ) (o : Opening) (p : Parts) (q : Quote) (now : �
   abbrev c : Candidates
   c = candidatesOf p
 
-  -- what is stored, by the tests that are still to be made
-  abbrev tested : Bool → Bool → Result Series
-  tested g k = if g && k then ok (live o c) else refused 11
-
   abbrev accepted : Result Print
   accepted = accept (o .terms .exponent) (o .bps) q
 
@@ -67,7 +63,7 @@ module _ (book : Bytes) (s : ℕ) (o : Opening) (p : Parts) (q : Quote) (now : �
   call = offerCall (o .terms) (o .bps) (o .expiry) p q
 
   abbrev found : Result Series
-  found = tested (goodTerms (o .terms)) (goodState (o .terms) p)
+  found = tested o p
 
   -- the call, by the tests and the acceptance
   abbrev callOf : Bool → Bool → Result Print → Answer
@@ -81,7 +77,7 @@ module _ (book : Bytes) (s : ℕ) (o : Opening) (p : Parts) (q : Quote) (now : �
       number m e = cc
 
       go : (g k : Bool) (x : Result Print) → accepted ≡ x → callOf g k x ≡ Refused n
-          → (Refused (inBook n) ≡ storedAnswer (tested g k) (Offer q now)) × (book ≡ written s book (tested g k) (Offer q now))
+          → (Refused (inBook n) ≡ storedAnswer (testedAs (g && k) o p) (Offer q now)) × (book ≡ written s book (testedAs (g && k) o p) (Offer q now))
       go false k x e h = rw (← number 12 h) (refl, refl)
       go true false x e h = rw (← number 11 h) (refl, refl)
       go true true (refused m) e h =
@@ -97,9 +93,9 @@ module _ (book : Bytes) (s : ℕ) (o : Opening) (p : Parts) (q : Quote) (now : �
   offer-used u v f h = go (goodTerms (o .terms)) (goodState (o .terms) p) accepted refl h
     where
       go : (g k : Bool) (x : Result Print) → accepted ≡ x → callOf g k x ≡ Used u v f
-          → (Used u v f ≡ storedAnswer (tested g k) (Offer q now))
-          × (replaced s (openRecord o (if isUsed (callOf g k x) then partsOf (offerPlaced (o .terms) (o .expiry) c x now) else p)) book ≡ written s book (tested g k) (Offer q now))
-          × (tested g k ≡ ok (live o c))
+          → (Used u v f ≡ storedAnswer (testedAs (g && k) o p) (Offer q now))
+          × (replaced s (openRecord o (if isUsed (callOf g k x) then partsOf (offerPlaced (o .terms) (o .expiry) c x now) else p)) book ≡ written s book (testedAs (g && k) o p) (Offer q now))
+          × (testedAs (g && k) o p ≡ ok (live o c))
       go false k x e h = (cc, cc, cc)
       go true false x e h = (cc, cc, cc)
       go true true (refused m) e h = (cc, cc, cc)

@@ -2,22 +2,17 @@
 use Prim.Native.Nat.{ℕ, zero, suc, _-_}
 use mathlib.Core.Path.{_≡_, refl}
 use mathlib.Core.Bool.{true}
-use mathlib.Core.List.{List, [], _∷_}
+use mathlib.Core.List.{List}
 use lib.ListN.{length, drop, getD}
 use mir.Syntax.{w8}
 use mir.Val.{Fits}
-use borrow.Author.Tests.{lt-ltb}
 use Rattle.rules.specs.Log.{all}
 use Rattle.rules.specs.Bytes.{Bytes, areBytes}
 use Rattle.claims.specs.Demand3.{Demand3}
-use Rattle.claims.proofs.Entries.{drop-bytes}
+use Rattle.claims.proofs.Entries.{drop-bytes, are-bytes}
 use Rattle.claims.proofs.OneForm.{take-bytes}
 use Rattle.claims.proofs.Demand3.{demand3}
 use Rattle.replay.specs.Entries.{startOf, entriesTo, entriesOf}
-
-are-bytes : (bs : Bytes) → ((i : ℕ) → Fits w8 (getD bs i 0)) → areBytes bs ≡ true
-are-bytes [] h = refl
-are-bytes (b ∷ bs) h = rw (lt-ltb b 256 (h 0 .fits), are-bytes bs (λ i. h (suc i)))
 
 module _ (bs : Bytes) (ends : List ℕ) where
   all-bytes : (n : ℕ) → areBytes bs ≡ true → all areBytes (entriesTo bs ends n) ≡ true

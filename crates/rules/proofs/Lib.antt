@@ -15,3 +15,4 @@ pub mod Record
 pub mod Examples
 pub mod Decision
 pub mod Slot
+pub mod Journal

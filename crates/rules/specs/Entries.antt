@@ -49,6 +49,15 @@ quoteAt bs =
 abbrev pub nowAt : Bytes → ℤ
 nowAt bs = signedAt bs 2 8
 
+-- "38 bytes", "46 bytes", "10 bytes": the width of a command, by its byte; 1 for an unknown one
+abbrev pub width : ℕ → ℕ
+width b =
+    if eqb b 0x01 then 38 else
+    if eqb b 0x02 then 46 else
+    if eqb b 0x03 then 10 else
+    if eqb b 0x04 then 10 else
+    1
+
 -- "33 command not of its width", "34 series above 63"
 abbrev pub ofWidth : ℕ → Bytes → Command → Entry
 ofWidth width bs c =
@@ -60,8 +69,8 @@ unfoldable pub entry : Bytes → Entry
 entry [] = noCommand 33
 entry (b ∷ bs) =
     let e = b ∷ bs in
-    if eqb b 0x01 then ofWidth 38 e (Open (openingAt e)) else
-    if eqb b 0x02 then ofWidth 46 e (Offer (quoteAt e) (nowAt e)) else
-    if eqb b 0x03 then ofWidth 10 e (Ask (nowAt e)) else
-    if eqb b 0x04 then ofWidth 10 e (Fix (nowAt e)) else
+    if eqb b 0x01 then ofWidth (width 0x01) e (Open (openingAt e)) else
+    if eqb b 0x02 then ofWidth (width 0x02) e (Offer (quoteAt e) (nowAt e)) else
+    if eqb b 0x03 then ofWidth (width 0x03) e (Ask (nowAt e)) else
+    if eqb b 0x04 then ofWidth (width 0x04) e (Fix (nowAt e)) else
     noCommand 32

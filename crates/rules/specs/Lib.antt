@@ -12,3 +12,5 @@ pub mod Record
 pub mod Entries
 pub mod Book
 pub mod Ledger
+pub mod Lines
+pub mod Journal

@@ -50,6 +50,11 @@ module _ {A : Type 0} where
   put l none = l
   put l (some x) = l ▹ x
 
+  -- l, and then those of a list
+  abbrev pub puts : Log A → List A → Log A
+  puts l [] = l
+  puts l (x ∷ xs) = puts (l ▹ x) xs
+
   -- every one of l passes the test
   abbrev pub all : (A → Bool) → Log A → Bool
   all P ε = true

@@ -70,10 +70,17 @@ fields tag o s samples number fixingTime price =
     ∷ signedBytes 8 (s .windowChanged) ∷ signedBytes 8 (s .linkChanged) ∷ signedBytes 8 (s .fallbackChanged)
     ∷ signedBytes 8 fixingTime ∷ bytes 8 price ∷ [])))
 
+-- under tag 1 with no outcome; under tag 2 with the answer and its time
+abbrev pub openRecord : Opening → Parts → Bytes
+openRecord o s = concat (fields 1 o s 0 0 (pos 0) 0)
+
+abbrev pub fixedRecord : Opening → Parts → Answer → ℤ → Bytes
+fixedRecord o s a at = concat (fields 2 o s (samplesOf a) (methodOf a) at (priceOf a))
+
 unfoldable pub bytesOf : Series → Bytes
 bytesOf empty = zeros recordSize
-bytesOf (live o c) = concat (fields 1 o (partsOf c) 0 0 (pos 0) 0)
-bytesOf (fixed o c a at) = concat (fields 2 o (partsOf c) (samplesOf a) (methodOf a) at (priceOf a))
+bytesOf (live o c) = openRecord o (partsOf c)
+bytesOf (fixed o c a at) = fixedRecord o (partsOf c) a at
 
 -- ---- reading, at 01's offsets
 

@@ -3,10 +3,10 @@ use Prim.Native.Nat.{ℕ}
 use mathlib.Core.Option.{Option, none, some}
 use lib.IntN.{ℤ, pos}
 use Rattle.rules.specs.Log.{ε, if_then_else_, maybe}
-use Rattle.rules.specs.Answers.{Result, ok, refused, Answer, Opened, Wait, Refused, final, isUsed}
+use Rattle.rules.specs.Answers.{Result, Answer, Opened, Wait, Refused, final, isUsed}
 use Rattle.rules.specs.Terms.{Terms, goodTerms}
 use Rattle.rules.specs.Prints.{Print, Quote, accept}
-use Rattle.rules.specs.Taking.{Candidates, printAnswer, place}
+use Rattle.rules.specs.Taking.{Candidates, offerAnswer, offerPlaced}
 use Rattle.rules.specs.Decision.{decide}
 
 -- what a series is opened with: the terms, max bps and E
@@ -61,10 +61,9 @@ decided o c now = decide (o .terms) (o .expiry) c now
 
 -- "offer then acceptance, 0, 14"
 abbrev pub offered : Opening → Candidates → ℤ → Result Print → Step
-offered o c now (refused r) = keeps (Refused r)
-offered o c now (ok p) =
-    let a = printAnswer (o .terms) (o .expiry) c p in
-    if isUsed a then leaves a (live o (place (o .terms) (o .expiry) c p now)) else keeps a
+offered o c now x =
+    let a = offerAnswer (o .terms) (o .expiry) c x in
+    if isUsed a then leaves a (live o (offerPlaced (o .terms) (o .expiry) c x now)) else keeps a
 
 -- "39 fix while the decision is Wait"
 abbrev pub waiting : Answer → Answer

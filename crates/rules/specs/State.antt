@@ -10,7 +10,7 @@ use Rattle.rules.specs.Log.{Log, ε, _▹_, if_then_else_, size, all, nt
 use Rattle.rules.specs.Answers.{Result, ok, refused, Answer, Refused, isUsed}
 use Rattle.rules.specs.Terms.{Terms, slots, goodTerms}
 use Rattle.rules.specs.Prints.{Print, Quote, goodPrint, eqZ, accept}
-use Rattle.rules.specs.Taking.{Candidates, printAnswer, place}
+use Rattle.rules.specs.Taking.{Candidates, printAnswer, place, offerAnswer, offerPlaced}
 use Rattle.rules.specs.Decision.{decide}
 
 -- Candidates with their links in five places: how many there are, the times and the prices.
@@ -108,15 +108,6 @@ addPrintCall t E s p = checked t s (if not (goodPrint p) then Refused 13 else pr
 -- "`add_print` gives back the state it took" on a refusal
 unfoldable pub addPrintState : Terms → ℤ → Parts → Print → ℤ → Parts
 addPrintState t E s p now = if isUsed (addPrintCall t E s p) then partsOf (place t E (candidatesOf s) p now) else s
-
--- an offered print: "acceptance, 0, 14"
-abbrev pub offerAnswer : Terms → ℤ → Candidates → Result Print → Answer
-offerAnswer t E c (ok p) = printAnswer t E c p
-offerAnswer t E c (refused r) = Refused r
-
-abbrev pub offerPlaced : Terms → ℤ → Candidates → Result Print → ℤ → Candidates
-offerPlaced t E c (ok p) now = place t E c p now
-offerPlaced t E c (refused r) now = c
 
 -- terms, state, and then the offer
 unfoldable pub offerCall : Terms → ℕ → ℤ → Parts → Quote → Answer

@@ -8,7 +8,7 @@ use lib.Signed.{ltZ, leZ}
 use lib.Dec.{ltb, eqb}
 use Rattle.rules.specs.Log.{Log, ε, _▹_, if_then_else_, isSome, maybe, size, find, every}
 use Rattle.rules.specs.Bytes.{fits}
-use Rattle.rules.specs.Answers.{Answer, Used, Refused}
+use Rattle.rules.specs.Answers.{Result, ok, refused, Answer, Used, Refused}
 use Rattle.rules.specs.Terms.{Terms, slots}
 use Rattle.rules.specs.Prints.{Print, eqZ}
 
@@ -96,3 +96,12 @@ module _ (t : Terms) (E : ℤ) where
         linkChanged = if isLink c p then now else c .linkChanged;
         fallbackChanged = if isFallback c p then now else c .fallbackChanged;
       }
+
+  -- an offered print, accepted or refused: "acceptance, 0, 14"
+  abbrev pub offerAnswer : Candidates → Result Print → Answer
+  offerAnswer c (ok p) = printAnswer c p
+  offerAnswer c (refused r) = Refused r
+
+  abbrev pub offerPlaced : Candidates → Result Print → ℤ → Candidates
+  offerPlaced c (ok p) now = place c p now
+  offerPlaced c (refused r) now = c

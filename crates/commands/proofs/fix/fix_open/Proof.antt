@@ -14,7 +14,7 @@ use Rattle.metalbook_core.specs.Decisions as D
 use Rattle.metalbook_core.specs.Decisions.{decisionOf}
 use Rattle.metalbook_core.proofs.Places.{passed, failed}
 use Rattle.book.specs.Records.{openingOf}
-use Rattle.book.specs.Stores.{fixedRecord}
+use Rattle.rules.specs.Record.{fixedRecord}
 use Rattle.commands.proofs.Commands.{answered-by, left-by, by-test, open-kept, stored-allowed, fix-refused, fix-waits, fix-done}
 use borrow.Author.Needs.{needs}
 use Rattle.commands.proofs.fix.fix_open.Statement.{statement}

@@ -9,7 +9,7 @@ use Rattle.metalbook_core.specs.Prints.{quoteOf}
 use Rattle.metalbook_core.specs.States.{stateOf}
 use Rattle.metalbook_core.specs.Uses.{indexOf, usedOf}
 use Rattle.book.specs.Records.{openingOf}
-use Rattle.book.specs.Stores.{openRecord}
+use Rattle.rules.specs.Record.{openRecord}
 use Rattle.commands.proofs.Commands.{open-found, stored-allowed}
 use Rattle.commands.proofs.Offers.{offer-refused, offer-used}
 use borrow.Author.Needs.{needs}

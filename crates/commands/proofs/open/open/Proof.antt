@@ -5,7 +5,7 @@ use Rattle.rules.specs.Book.{replaced}
 use Rattle.metalbook_core.specs.States.{stateOf}
 use Rattle.metalbook_core.proofs.Places.{passed, failed}
 use Rattle.book.specs.Records.{openingWith}
-use Rattle.book.specs.Stores.{openRecord}
+use Rattle.rules.specs.Record.{openRecord}
 use Rattle.commands.proofs.Commands.{found, answered, left, stored-allowed, open-refused, open-done}
 use borrow.Author.Needs.{needs}
 use Rattle.commands.proofs.open.open.Statement.{statement}
