@@ -1,0 +1,4 @@
+pub mod Split
+pub mod Feed
+pub mod Parts
+pub mod Whole
