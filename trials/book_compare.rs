@@ -4,7 +4,7 @@ use super::book::{BOOK, RECORD, rust_command};
 use super::by_hand::{damaged_records, orders};
 use super::journals::{Mood, change_field, each_command, fields, next, planted, zeroed};
 use super::kinds::{Seen, kind, own_record};
-use super::{Given, Random, give, lanternfold_command};
+use super::{Given, Random, give, hex, lanternfold_command};
 use std::collections::BTreeMap;
 
 /// Both sides' books, which are equal before each command, and what was found.
@@ -20,10 +20,6 @@ struct Trial {
     different: u64,
     /// Commands on acceptable records, and on others.
     records: [u64; 2],
-}
-
-fn hex(bytes: &[u8]) -> String {
-    bytes.iter().map(|b| format!("{b:02x}")).collect()
 }
 
 impl Trial {

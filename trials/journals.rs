@@ -265,6 +265,11 @@ fn command(random: &mut Random, book: &[u8], mood: Mood) -> Vec<u8> {
         2 => random.below(64) as u8,
         _ => random.below(mood.series) as u8,
     };
+    command_to(random, book, series, mood)
+}
+
+/// A command of its width to this series.
+pub fn command_to(random: &mut Random, book: &[u8], series: u8, mood: Mood) -> Vec<u8> {
     let at = usize::from(series % 64) * RECORD;
     let record = &book[at..at + RECORD];
     let v = View::of(record);

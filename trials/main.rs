@@ -5,9 +5,13 @@ mod book_bench;
 mod book_compare;
 mod book_record;
 mod by_hand;
+mod examples;
 mod journals;
 mod kinds;
+mod lines;
+mod long;
 mod record;
+mod sheet_compare;
 
 use metalbook_core::{accept_print, to_atoms};
 use std::collections::BTreeMap;
@@ -99,6 +103,11 @@ fn give(side: CommandEntry, book: &mut [u8], entry: &[u8]) -> Given {
     let code =
         unsafe { side(book.as_mut_ptr(), book_len, entry.as_ptr(), entry_len, &mut first, &mut second, &mut third) };
     (code, [first, second, third])
+}
+
+/// The bytes of an entry or a record, to print.
+fn hex(bytes: &[u8]) -> String {
+    bytes.iter().map(|b| format!("{b:02x}")).collect()
 }
 
 #[derive(Clone, Copy, Debug)]
@@ -381,10 +390,28 @@ fn compare_core(random: &mut Random) -> bool {
     mean && accept
 }
 
+/// Writes a long journal, for the measurements.
+fn write_journal(random: &mut Random, name: &str, commands: &str, path: &str) {
+    let commands = commands.parse().expect("a number of commands");
+    let journal = match name {
+        "hostile" => long::hostile(random, commands),
+        "day" => long::day(random, commands),
+        _ => panic!("no such journal: {name}"),
+    };
+    std::fs::write(path, journal).unwrap_or_else(|e| panic!("{path}: {e}"));
+}
+
 fn finish(good: bool) {
     println!("{}", if good { "no difference" } else { "DIFFERENT" });
     std::process::exit(i32::from(!good));
 }
+
+const USAGE: &str = "usage: driver [compare [core | book]]
+       driver sheet OUR_PROGRAM RUST_PROGRAM
+       driver journal (day | hostile) COMMANDS FILE
+       driver spin CALL (ours | rust | none) TIMES
+       driver record (core | book) FILE
+       driver record examples DIR";
 
 fn main() {
     let words: Vec<String> = std::env::args().skip(1).collect();
@@ -397,6 +424,8 @@ fn main() {
         }
         ["compare", "core"] => finish(compare_core(&mut random)),
         ["compare", "book"] => finish(book_compare::compare(&mut random)),
+        ["sheet", ours, rust] => finish(sheet_compare::compare(&mut random, ours, rust)),
+        ["journal", name, commands, path] => write_journal(&mut random, name, commands, path),
         ["spin", call, side, times] => {
             let times = times.parse().expect("a number of calls");
             let (sum, ns) = match *call {
@@ -407,6 +436,10 @@ fn main() {
         }
         ["record", "core", path] => std::process::exit(i32::from(!record::record(path, &mut random))),
         ["record", "book", path] => std::process::exit(i32::from(!book_record::record(path, &mut random))),
-        _ => panic!("compare [core | book] | spin CALL SIDE TIMES | record core|book FILE"),
+        ["record", "examples", folder] => std::process::exit(i32::from(!examples::record(folder))),
+        given => {
+            eprintln!("driver: these words are no call of it: {given:?}\n{USAGE}");
+            std::process::exit(2);
+        }
     }
 }
