@@ -200,7 +200,7 @@ fn fallback() -> Example {
 fn void() -> Example {
     let wide = Offer { conf: 2_001, ..print(962, 200_000, 962, 959) };
     let tail = Step {
-        words: "the first 5 bytes of ask 3".into(),
+        words: "the first 5 bytes of ask 3 at 1108".into(),
         entry: ask_entry(3, 1108)[..5].to_vec(),
         line: "refused 33",
         why: "a short tail, which ends the journal",
