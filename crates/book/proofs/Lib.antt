@@ -1,4 +1,1 @@
-pub mod Offsets
 pub mod Records
-pub mod Entries
-pub mod Stores

@@ -1,10 +1,10 @@
 -- What is stored in a record, by its tag and the tests that the code makes.
-use Prim.Native.Nat.{ℕ, zero, suc, _+_, _*_, _-_, _<_}
+use Prim.Native.Nat.{ℕ, zero, suc, _+_, _*_, _-_, _≤_, _<_}
 use mathlib.Core.Path.{_≡_, refl, sym, ap, _∙_}
 use mathlib.Core.Bool.{Bool, true, false, not, _&&_}
 use mathlib.Core.List.{[], _∷_, _++_}
 use native.Mathlib.Omega.{arith}
-use lib.ListN.{length, take, drop, length-drop}
+use lib.ListN.{length, take, drop, length-drop, drop-of-length-le}
 use lib.Seq.{length-take-le}
 use lib.IntN.{ℤ}
 use lib.Dec.{ltb, eqb}
@@ -13,19 +13,19 @@ use borrow.Author.Tests.{ltb-true, ltb-false, eq-eqb, ne-eqb, eqb-true, eqb-fals
 use borrow.Rule.Slice.PartMut.{putMid, post-is}
 use Rattle.rules.specs.Log.{if_then_else_, every}
 use Rattle.rules.specs.Bytes.{Bytes, allZero, little, unsignedAt, signedAt}
-use Rattle.rules.specs.Answers.{Result, ok, refused, Method, number, method, Answer}
+use Rattle.rules.specs.Answers.{Result, ok, refused, Method, number, method, Answer, Refused}
 use Rattle.rules.specs.Terms.{Terms, goodTerms}
-use Rattle.rules.specs.Decision.{decide}
-use Rattle.rules.specs.State.{Parts, candidatesOf, goodState}
+use Rattle.rules.specs.State.{Parts, candidatesOf, goodState, decideCall}
 use Rattle.rules.specs.Series.{empty, live, decided}
-use Rattle.rules.specs.Record.{recordSize, bookSize, seriesCount, openingIn, partsIn, tagIn, fixingTimeIn, seriesIn, bodyTests, openTests, fixedTests, acceptable, stored}
+use Rattle.rules.specs.Record.{recordSize, bookSize, seriesCount, openingIn, partsIn, tagIn, fixingTimeIn, seriesIn, bodyTests, openTests, fixedTests, standing, acceptable, stored}
 use Rattle.rules.specs.Book.{recordAt, replaced, look}
 use Rattle.rules.proofs.Bools.{both, and-true, and-false}
-use Rattle.metalbook_core.specs.States.{valueOr}
+use Rattle.core_parts.specs.States.{valueOr}
 use Rattle.book.specs.declared.look.LookResult.the-variants as L
+use Rattle.book.specs.Looks.{lookResultOf, Allowed}
+use Rattle.book.specs.declared.record.Status.{Status}
 use Rattle.book.specs.declared.record.Status.the-variants as S
-use Rattle.book.specs.Looks.{lookResultOf}
-use Rattle.book.specs.Records.{goodBody, statusAs, statusOf, statusIn, storedIn, storedAt}
+use Rattle.book.specs.Records.{goodBody, statusAs, statusOf, statusIn, storedIn, storedAt, contentsIn, noContents, contentsFrom, decisionIn}
 
 -- ---- a look
 
@@ -37,8 +37,11 @@ refused-look (refused r) n e = ap refused (sym (number-is n r e))
     number-is : (n r : ℕ) → L.Refused n ≡ L.Refused r → n ≡ r
     number-is n r e = cc
 
--- as the borrow checker says it
-pub part-is : (s : ℕ) (book : Bytes) → take (s * recordSize + recordSize - s * recordSize) (drop (s * recordSize) book) ≡ recordAt s book
+-- the part of series s, as the borrow checker says it
+abbrev pub partAt : ℕ → Bytes → Bytes
+partAt s book = take (s * recordSize + recordSize - s * recordSize) (drop (s * recordSize) book)
+
+pub part-is : (s : ℕ) (book : Bytes) → partAt s book ≡ recordAt s book
 unfolding recordAt
 part-is s book = let e : s * recordSize + recordSize - s * recordSize ≡ recordSize = omega arith in rw e
 
@@ -111,7 +114,7 @@ module _ (bs : Bytes) where
   body-is et es e = simp (eq-eqb (unsignedAt bs 37 3) 0 e, and-true) (λ i. goodTerms (sym et i) && goodState (sym et i) (sym es i))
 
   -- where they are, an open and a fixed record
-  pub open-status : (b : Bool) → tagIn bs ≡ 1 → unsignedAt bs 37 3 ≡ 0 → every (openTests bs) ≡ b → (if b then statusAs S.Open bs else refused 11) ≡ stored bs
+  pub open-status : (b : Bool) → tagIn bs ≡ 1 → unsignedAt bs 37 3 ≡ 0 → every (openTests bs) ≡ b → (if b then statusAs S.Untested bs else refused 11) ≡ stored bs
   unfolding stored acceptable seriesIn
   open-status b t p f = rw (t, body-is refl refl p, f) (go (goodBody bs) b)
     where
@@ -129,10 +132,18 @@ module _ (bs : Bytes) where
   abbrev pub again : Answer
   again = decided (openingIn bs) (candidatesOf (partsIn bs)) (fixingTimeIn bs)
 
-  pub decided-is : {t : Terms} {E : ℤ} {s : Parts} {at : ℤ} → t ≡ openingIn bs .terms → E ≡ signedAt bs 40 8 → s ≡ partsIn bs → at ≡ fixingTimeIn bs
-      → decide t E (candidatesOf s) at ≡ again
-  unfolding openingIn
-  decided-is et eE es ea = λ i. decide (et i) (eE i) (candidatesOf (es i)) (ea i)
+  -- the core's call for it, which tests the terms and the state
+  abbrev pub called : Answer
+  called = decideCall (openingIn bs .terms) (openingIn bs .expiry) (partsIn bs) (fixingTimeIn bs)
+
+  pub fixed-called : every (standing bs called) ≡ goodBody bs && every (fixedTests bs)
+  unfolding decideCall
+  fixed-called = go (goodTerms (openingIn bs .terms)) (goodState (openingIn bs .terms) (partsIn bs))
+    where
+      go : (x y : Bool) → every (standing bs (if not x then Refused 12 else (if not y then Refused 11 else again))) ≡ (x && y) && every (standing bs again)
+      go true true = refl
+      go true false = refl
+      go false y = refl
 
   -- what is stored, by the status
   pub status-stored : statusAs (statusOf bs) bs ≡ stored bs
@@ -142,7 +153,7 @@ module _ (bs : Bytes) where
       zero-tag true t e = sym (stored-zero true t e)
       zero-tag false t e = sym (stored-zero false t e)
 
-      one-tag : (b : Bool) → tagIn bs ≡ 1 → unsignedAt bs 37 3 ≡ 0 → every (openTests bs) ≡ b → statusAs (if b then S.Open else S.Refused 11) bs ≡ stored bs
+      one-tag : (b : Bool) → tagIn bs ≡ 1 → unsignedAt bs 37 3 ≡ 0 → every (openTests bs) ≡ b → statusAs (if b then S.Untested else S.Refused 11) bs ≡ stored bs
       one-tag true t p e = open-status true t p e
       one-tag false t p e = open-status false t p e
 
@@ -152,7 +163,7 @@ module _ (bs : Bytes) where
 
       go : (x y p z : Bool) → eqb (tagIn bs) 0 ≡ x → ltb 2 (tagIn bs) ≡ y → eqb (unsignedAt bs 37 3) 0 ≡ p → eqb (tagIn bs) 1 ≡ z
           → statusAs (if x then (if allZero bs then S.Empty else S.Refused 11) else (if y then S.Refused 11 else (if not p then S.Refused 11 else
-          (if z then (if every (openTests bs) then S.Open else S.Refused 11) else (if goodBody bs && every (fixedTests bs) then S.Fixed else S.Refused 11))))) bs ≡ stored bs
+          (if z then (if every (openTests bs) then S.Untested else S.Refused 11) else (if goodBody bs && every (fixedTests bs) then S.Fixed else S.Refused 11))))) bs ≡ stored bs
       go true y p z ex ey ep ez = zero-tag (allZero bs) (eqb-true (tagIn bs) 0 ex) refl
       go false true p z ex ey ep ez = sym (stored-above (ltb-true 2 (tagIn bs) ey))
       go false false false z ex ey ep ez = sym (stored-spoilt (eqb-false (tagIn bs) 0 ex) (not-padded ep))
@@ -188,6 +199,14 @@ other-word n bs h = go (allZero bs) refl
     go true e = absurd (h (zero-all n bs e))
     go false e = e
 
+-- the last bytes at once
+pub last-word : (n : ℕ) (bs : Bytes) → length bs ≤ n → eqb (little (take n bs)) 0 ≡ allZero bs
+last-word n bs h = go (eqb (little (take n bs)) 0) refl
+  where
+    go : (b : Bool) → eqb (little (take n bs)) 0 ≡ b → b ≡ allZero bs
+    go true e = sym (zero-word n bs (eqb-true (little (take n bs)) 0 e) ∙ ap allZero (drop-of-length-le bs {i = n} h))
+    go false e = sym (other-word n bs (eqb-false (little (take n bs)) 0 e))
+
 -- ---- methods
 
 pub method-back : (n : ℕ) (m : Method) → method n ≡ ok m → number m ≡ n
@@ -219,3 +238,50 @@ status-found book s = go (eqb (length book) bookSize) (ltb s seriesCount)
     go true true = status-stored (recordAt s book)
     go true false = refl
     go false d = refl
+
+-- where the status is no refusal the look was allowed
+abbrev pub isRefused : Status → Bool
+isRefused S.Empty = false
+isRefused S.Untested = false
+isRefused S.Fixed = false
+isRefused (S.Refused r) = true
+
+module _ (book : Bytes) (s : ℕ) where
+  pub not-refused : isRefused (statusIn (look book s)) ≡ false → Allowed book s
+  unfolding look
+  not-refused h = go (eqb (length book) bookSize) (ltb s seriesCount) h
+    where
+      go : (b d : Bool) → isRefused (statusIn (if not b then refused 35 else (if not d then refused 34 else ok (recordAt s book)))) ≡ false
+          → (if not b then refused 35 else (if not d then refused 34 else ok (recordAt s book))) ≡ ok (recordAt s book)
+      go true true e = refl
+      go true false e = cc
+      go false d e = cc
+
+  module _ (h : Allowed book s) where
+    pub allowed-book : (length book ≡ bookSize) × (s < seriesCount)
+    allowed-book = in-book book s (sym (ap lookResultOf h))
+
+    -- its part is a whole record
+    pub allowed-part : length (partAt s book) ≡ recordSize
+    allowed-part = ap (λ (x : Bytes). length x) (part-is s book) ∙ record-whole book s (sym (ap lookResultOf h))
+
+-- ---- the decision on a record
+
+module _ (bs : Bytes) (now : ℤ) where
+  pub decision-of : length bs ≡ recordSize → decisionIn bs now ≡ decideCall (openingIn bs .terms) (openingIn bs .expiry) (partsIn bs) now
+  decision-of e = rw (eq-eqb (length bs) recordSize e)
+
+  pub no-decision : (length bs ≡ recordSize → ⊥) → decisionIn bs now ≡ Refused 11
+  no-decision h = rw (ne-eqb (length bs) recordSize h)
+
+-- ---- what stands in a record
+
+pub contents-whole : (bs : Bytes) → length bs ≡ recordSize → contentsFrom bs ≡ contentsIn bs
+contents-whole bs e = rw (eq-eqb (length bs) recordSize e)
+
+pub contents-other : (bs : Bytes) → (length bs ≡ recordSize → ⊥) → contentsFrom bs ≡ noContents
+contents-other bs h = rw (ne-eqb (length bs) recordSize h)
+
+-- of an allowed look
+pub contents-looked : (book : Bytes) (s : ℕ) → Allowed book s → contentsFrom (partAt s book) ≡ contentsIn (recordAt s book)
+contents-looked book s h = contents-whole (partAt s book) (allowed-part book s h) ∙ ap contentsIn (part-is s book)

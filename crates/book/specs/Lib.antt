@@ -1,4 +1,2 @@
 pub mod Looks
 pub mod Records
-pub mod Entries
-pub mod Stores

@@ -1,19 +1,20 @@
--- What was found in a record, read as the rules' series.
+-- What a record is found to be, and what stands in it.
 use Prim.Native.Nat.{ℕ}
 use mathlib.Core.Bool.{Bool, not, _&&_}
 use lib.IntN.{ℤ, pos}
+use lib.ListN.{length}
 use lib.Dec.{ltb, eqb}
 use Rattle.rules.specs.Log.{if_then_else_, every}
 use Rattle.rules.specs.Bytes.{Bytes, allZero, unsignedAt}
 use Rattle.rules.specs.Answers as R
 use Rattle.rules.specs.Terms.{goodTerms}
-use Rattle.rules.specs.State.{Parts, partsOf, candidatesOf, goodState}
+use Rattle.rules.specs.State.{Parts, partsOf, candidatesOf, goodState, decideCall}
 use Rattle.rules.specs.Series.{Opening, Series, empty, live, fixed, noCandidates}
-use Rattle.rules.specs.Record.{outcome, openingIn, partsIn, tagIn, methodIn, samplesIn, fixingTimeIn, priceIn, openTests, fixedTests, stored}
+use Rattle.rules.specs.Record.{recordSize, outcome, openingIn, partsIn, tagIn, methodIn, samplesIn, fixingTimeIn, priceIn, openTests, fixedTests, stored}
 use Rattle.rules.specs.Book.{look}
-use Rattle.metalbook_core.specs.declared.settlement.params.OracleParams.{OracleParams}
-use Rattle.metalbook_core.specs.Params.{termsOf}
-use Rattle.metalbook_core.specs.States.{stateOf}
+use Rattle.core_terms.specs.declared.params.OracleParams.{OracleParams}
+use Rattle.core_terms.specs.Params.{termsOf}
+use Rattle.core_parts.specs.States.{storedOf}
 use Rattle.book.specs.declared.record.Status.{Status}
 use Rattle.book.specs.declared.record.Status.the-variants as S
 use Rattle.book.specs.declared.record.Contents.{Contents}
@@ -28,10 +29,10 @@ goodBody bs = goodTerms (openingIn bs .terms) && goodState (openingIn bs .terms)
 abbrev pub outcomeIn : Bytes → R.Answer
 outcomeIn bs = outcome (R.method (methodIn bs)) (priceIn bs) (samplesIn bs)
 
--- what is stored in a record of this status; under Open the terms and the state are still to be tested
+-- what is stored in a record of this status; untested are the terms and the state
 abbrev pub statusAs : Status → Bytes → R.Result Series
 statusAs S.Empty bs = R.ok empty
-statusAs S.Open bs = if goodBody bs then R.ok (live (openingIn bs) (candidatesOf (partsIn bs))) else R.refused 11
+statusAs S.Untested bs = if goodBody bs then R.ok (live (openingIn bs) (candidatesOf (partsIn bs))) else R.refused 11
 statusAs S.Fixed bs = R.ok (fixed (openingIn bs) (candidatesOf (partsIn bs)) (outcomeIn bs) (fixingTimeIn bs))
 statusAs (S.Refused r) bs = R.refused r
 
@@ -41,7 +42,7 @@ statusOf bs =
     if eqb (tagIn bs) 0 then (if allZero bs then S.Empty else S.Refused 11) else
     if ltb 2 (tagIn bs) then S.Refused 11 else
     if not (eqb (unsignedAt bs 37 3) 0) then S.Refused 11 else
-    if eqb (tagIn bs) 1 then (if every (openTests bs) then S.Open else S.Refused 11) else
+    if eqb (tagIn bs) 1 then (if every (openTests bs) then S.Untested else S.Refused 11) else
     if goodBody bs && every (fixedTests bs) then S.Fixed else S.Refused 11
 
 -- ---- a record of the book
@@ -72,11 +73,12 @@ abbrev pub openingOf : Contents → Opening
 openingOf c = openingWith (c .params) (c .«max_conf_bps») (c .expiry .0)
 
 abbrev pub contentsOf : Contents → Held
-contentsOf c = record { opening = openingOf c; parts = stateOf (c .state) }
+contentsOf c = record { opening = openingOf c; parts = storedOf (c .state) }
 
 abbrev pub contentsIn : Bytes → Held
 contentsIn bs = record { opening = openingIn bs; parts = partsIn bs }
 
+-- zeros: terms that are not good
 abbrev pub noContents : Held
 noContents =
     record {
@@ -88,11 +90,10 @@ noContents =
       parts = partsOf noCandidates;
     }
 
--- zeros where the look is refused, and Void
-abbrev pub contentsAt : R.Result Bytes → Held
-contentsAt (R.ok bytes) = contentsIn bytes
-contentsAt (R.refused r) = noContents
+-- bytes of another length are no record
+abbrev pub contentsFrom : Bytes → Held
+contentsFrom bs = if eqb (length bs) recordSize then contentsIn bs else noContents
 
-abbrev pub outcomeAt : R.Result Bytes → R.Answer
-outcomeAt (R.ok bytes) = outcomeIn bytes
-outcomeAt (R.refused r) = R.Void
+-- the core's decision on it; and of no record 11
+abbrev pub decisionIn : Bytes → ℤ → R.Answer
+decisionIn bs now = if eqb (length bs) recordSize then decideCall (openingIn bs .terms) (openingIn bs .expiry) (partsIn bs) now else R.Refused 11

@@ -1,6 +1,4 @@
-// The book's bytes: its records looked at, loaded and stored, and the entries that are given to it.
-pub mod command;
-mod fields;
+// The book's bytes: a look at a series, and what its record is found to be. Whoever holds a book may
+// call it; it writes nothing.
 pub mod look;
 pub mod record;
-pub mod store;

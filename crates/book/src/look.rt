@@ -2,7 +2,7 @@
 ghost use mathlib.Core.Path.{_≡_};
 ghost use mathlib.Core.List.{[]};
 ghost use Rattle.rules.specs.Book.{look};
-ghost use Rattle.metalbook_core.specs.States.{valueOr};
+ghost use Rattle.core_parts.specs.States.{valueOr};
 ghost use Rattle.book.specs.Looks.{lookResultOf};
 
 // The bytes of a record.

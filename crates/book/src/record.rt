@@ -1,40 +1,42 @@
-// Records: read at their offsets, and whether they are acceptable.
+// Records: read at their offsets, and what they are found to be.
 ghost use mathlib.Core.Path.{_≡_};
 ghost use mathlib.Core.Bool.{_&&_};
 ghost use lib.ListN.{length};
 ghost use Rattle.rules.specs.Log.{every};
 ghost use Rattle.rules.specs.Bytes.{allZero};
-ghost use Rattle.rules.specs.Terms.{goodTerms};
-ghost use Rattle.rules.specs.State.{goodState};
 ghost use Rattle.rules.specs.Record.{recordSize, openingIn, partsIn, openTests, fixedTests, outcomeTests, standing};
 ghost use Rattle.rules.specs.Book.{look};
-ghost use Rattle.metalbook_core.specs.Params.{termsOf};
-ghost use Rattle.metalbook_core.specs.States.{stateOf};
-ghost use Rattle.metalbook_core.specs.Decisions.{answerOf, decisionOf};
-ghost use Rattle.book.specs.Records.{goodBody, statusOf, statusIn, contentsOf, contentsIn, noContents, contentsAt, outcomeIn, outcomeAt};
-use crate::fields::i8_at;
-use crate::fields::i64_at;
-use crate::fields::u8_at;
-use crate::fields::u16_at;
-use crate::fields::u24_at;
-use crate::fields::u32_at;
-use crate::fields::u64_at;
+ghost use Rattle.core_terms.specs.Params.{termsOf};
+ghost use Rattle.core_parts.specs.States.{storedOf};
+ghost use Rattle.core_decide.specs.Decisions.{answerOf, decisionOf};
+ghost use Rattle.book.specs.Records.{goodBody, outcomeIn, statusOf, statusIn, contentsOf, noContents, contentsFrom, decisionIn};
 use crate::look::LookResult;
+use crate::look::RECORD_SIZE;
 use crate::look::look;
 use crate::look::look_result;
-use metalbook_core::settlement::decide::Decision;
-use metalbook_core::settlement::decide::DecisionResult;
-use metalbook_core::settlement::decide::MethodResult;
-use metalbook_core::settlement::decide::SettleMethod;
-use metalbook_core::settlement::decide::cascade;
-use metalbook_core::settlement::params::OracleParams;
-use metalbook_core::settlement::state::SettlementState;
-use metalbook_core::units::StrikeUsd;
-use metalbook_core::units::UnixTimestamp;
+use core_decide::decide::Decision;
+use core_decide::decide::DecisionResult;
+use core_decide::decide::MethodResult;
+use core_decide::decide::SettleMethod;
+use core_decide::decide::decide;
+use core_parts::state::SettlementParts;
+use core_terms::error::CoreError;
+use core_terms::params::OracleParams;
+use core_terms::units::StrikeUsd;
+use core_terms::units::UnixTimestamp;
+use fields::read::i8_at;
+use fields::read::i64_at;
+use fields::read::u8_at;
+use fields::read::u16_at;
+use fields::read::u24_at;
+use fields::read::u32_at;
+use fields::read::u64_at;
 
+// What a record is found to be. Of an open one, terms and candidates are still to be tested: the
+// core's calls do that, and their 12 or 11 is the book's 11.
 pub enum Status {
     Empty,
-    Open,
+    Untested,
     Fixed,
     Refused(u8),
 }
@@ -44,13 +46,12 @@ pub struct Contents {
     pub params: OracleParams,
     pub max_conf_bps: u16,
     pub expiry: UnixTimestamp,
-    pub state: SettlementState,
+    pub state: SettlementParts,
 }
 
 // ---- the fields
 
-pub(crate) fn read_params(bytes: &[u8]) -> OracleParams
-    requires { ⌜ length (now bytes) ≡ recordSize ⌝ }
+fn read_params(bytes: &[u8]) -> OracleParams
     ensures { λ r. ⌜ termsOf r ≡ openingIn (now (bytes .entry)) .terms ⌝ }
 {
     OracleParams {
@@ -66,11 +67,10 @@ pub(crate) fn read_params(bytes: &[u8]) -> OracleParams
     }
 }
 
-pub(crate) fn read_state(bytes: &[u8]) -> SettlementState
-    requires { ⌜ length (now bytes) ≡ recordSize ⌝ }
-    ensures { λ r. ⌜ stateOf r ≡ partsIn (now (bytes .entry)) ⌝ }
+fn read_state(bytes: &[u8]) -> SettlementParts
+    ensures { λ r. ⌜ storedOf r ≡ partsIn (now (bytes .entry)) ⌝ }
 {
-    SettlementState {
+    SettlementParts {
         sample_sum_low: u64_at(bytes, 48),
         sample_sum_high: u64_at(bytes, 56),
         filled_slots: u32_at(bytes, 32),
@@ -97,36 +97,95 @@ pub(crate) fn read_state(bytes: &[u8]) -> SettlementState
     }
 }
 
+// Zeros, which no core call takes for terms.
+fn no_contents() -> Contents
+    ensures { λ r. ⌜ contentsOf r ≡ noContents ⌝ }
+{
+    let params = OracleParams {
+        window_s: 0,
+        slot_s: 0,
+        slot_tolerance_s: 0,
+        min_samples: 0,
+        k_next_print: 0,
+        challenge_delay_s: 0,
+        fallback_lookback_s: 0,
+        hard_deadline_s: 0,
+        expo: 0,
+    };
+    Contents {
+        params: params,
+        max_conf_bps: 0,
+        expiry: UnixTimestamp::new(0),
+        state: SettlementParts::empty(),
+    }
+}
+
+// The fields as they stand, acceptable or not; bytes of another length hold none. The length is
+// tested first, and the compiler then leaves out the tests of the readers.
+pub fn read_contents(bytes: &[u8]) -> Contents
+    ensures { λ r. ⌜ contentsOf r ≡ contentsFrom (now (bytes .entry)) ⌝ }
+{
+    if bytes.len() != RECORD_SIZE {
+        return no_contents();
+    }
+    Contents {
+        params: read_params(bytes),
+        max_conf_bps: u16_at(bytes, 8),
+        expiry: UnixTimestamp::new(i64_at(bytes, 40)),
+        state: read_state(bytes),
+    }
+}
+
+// The core's decision on the fields; bytes of another length are refused with 11. The fields are
+// read here and not handed in: a state that is passed on twice is copied.
+pub fn decide_in(bytes: &[u8], now: i64) -> DecisionResult
+    ensures { λ r. ⌜ decisionOf r ≡ decisionIn (bytes .entry .now) now ⌝ }
+{
+    if bytes.len() != RECORD_SIZE {
+        return DecisionResult::Err(CoreError::InvariantViolated);
+    }
+    let c = read_contents(bytes);
+    let state = c.state;
+    decide(state, c.params, c.expiry, now)
+}
+
+// The outcome by its fields, or 1: 5 is Void, which has no price.
+pub fn read_outcome(bytes: &[u8]) -> DecisionResult
+    ensures { λ r. ⌜ decisionOf r ≡ outcomeIn (now (bytes .entry)) ⌝ }
+{
+    let number = u8_at(bytes, 36);
+    if number == 5 {
+        return DecisionResult::Ok(Decision::Void);
+    }
+    match SettleMethod::try_from(number) {
+        MethodResult::Ok(method) => DecisionResult::Ok(Decision::Settle {
+            method: method,
+            price: StrikeUsd::new(u64_at(bytes, 192)),
+            samples: u16_at(bytes, 10),
+        }),
+        MethodResult::Err(e) => DecisionResult::Err(e),
+    }
+}
+
 // ---- the tests
 
-// Eight bytes at a time.
+// Eight bytes at a time, then those that are left.
 fn all_zero(bytes: &[u8]) -> bool
-    requires { ⌜ length (now bytes) ≡ recordSize ⌝ }
     ensures { λ r. ⌜ r ≡ allZero (now (bytes .entry)) ⌝ }
 {
+    let n = bytes.len() / 8;
     let mut i = 0;
-    while i < 25 {
+    while i < n {
         if u64_at(bytes, 8 * i) != 0 {
             return false;
         }
         i += 1;
     }
-    true
-}
-
-// Whether the terms are good, and the state on them.
-pub fn accepted(params: OracleParams, state: SettlementState) -> bool
-    ensures { λ r. ⌜ r ≡ goodTerms (termsOf params) && goodState (termsOf params) (stateOf state) ⌝ }
-{
-    if !params.in_range() {
-        return false;
-    }
-    state.in_range(params)
+    u64_at(bytes, 8 * n) == 0
 }
 
 // No outcome: samples, method, fixing time and price zero.
 fn no_outcome(bytes: &[u8]) -> bool
-    requires { ⌜ length (now bytes) ≡ recordSize ⌝ }
     ensures { λ r. ⌜ r ≡ every (openTests (now (bytes .entry))) ⌝ }
 {
     if u16_at(bytes, 10) != 0 {
@@ -143,7 +202,6 @@ fn no_outcome(bytes: &[u8]) -> bool
 
 // Whether these samples, this method and this price stand in the record.
 fn same(bytes: &[u8], samples: u16, method: u8, price: u64) -> bool
-    requires { ⌜ length (now bytes) ≡ recordSize ⌝ }
     ensures { λ r. ⌜ r ≡ every (outcomeTests (now (bytes .entry)) samples method price) ⌝ }
 {
     if u16_at(bytes, 10) != samples {
@@ -157,7 +215,6 @@ fn same(bytes: &[u8], samples: u16, method: u8, price: u64) -> bool
 
 // Whether the decision is final and is what stands in the record.
 fn stands(bytes: &[u8], d: Decision) -> bool
-    requires { ⌜ length (now bytes) ≡ recordSize ⌝ }
     ensures { λ r. ⌜ r ≡ every (standing (now (bytes .entry)) (answerOf d)) ⌝ }
 {
     match d {
@@ -173,25 +230,17 @@ fn stands(bytes: &[u8], d: Decision) -> bool
 
 // ---- the record as a whole
 
-// Whether a record of tag 2 is acceptable: the decision at the fixing time is computed again.
+// Whether a record of tag 2 is acceptable: the decision at the fixing time is made again.
 fn is_fixed(bytes: &[u8]) -> bool
     requires { ⌜ length (now bytes) ≡ recordSize ⌝ }
     ensures { λ r. ⌜ r ≡ goodBody (now (bytes .entry)) && every (fixedTests (now (bytes .entry))) ⌝ }
 {
-    let params = read_params(bytes);
-    let state = read_state(bytes);
-    if !accepted(params, state) {
-        return false;
-    }
-    let expiry = i64_at(bytes, 40);
-    let time = i64_at(bytes, 184);
-    let DecisionResult::Ok(d) = cascade(params, state, expiry, time) else {
+    let DecisionResult::Ok(d) = decide_in(bytes, i64_at(bytes, 184)) else {
         return false;
     };
     stands(bytes, d)
 }
 
-// A record's 200 bytes.
 fn status_of(bytes: &[u8]) -> Status
     requires { ⌜ length (now bytes) ≡ recordSize ⌝ }
     ensures { λ r. ⌜ r ≡ statusOf (now (bytes .entry)) ⌝ }
@@ -211,7 +260,7 @@ fn status_of(bytes: &[u8]) -> Status
     }
     if tag == 1 {
         if no_outcome(bytes) {
-            return Status::Open;
+            return Status::Untested;
         }
         return Status::Refused(11);
     }
@@ -221,86 +270,12 @@ fn status_of(bytes: &[u8]) -> Status
     Status::Refused(11)
 }
 
-// What the record of a series is: 35, 34, and 11 where it is not acceptable. The terms and the
-// state of an open record are not tested yet: the core's calls test them.
+// What the record of a series is: 35, 34, and 11 where it is not acceptable.
 pub fn status_at(book: &[u8], series: u8) -> Status
     ensures { λ r. ⌜ r ≡ statusIn (look (now (book .entry)) series) ⌝ }
 {
     match look_result(book, series) {
         LookResult::Ok => status_of(look(book, series)),
         LookResult::Refused(n) => Status::Refused(n),
-    }
-}
-
-fn read_contents(bytes: &[u8]) -> Contents
-    requires { ⌜ length (now bytes) ≡ recordSize ⌝ }
-    ensures { λ r. ⌜ contentsOf r ≡ contentsIn (now (bytes .entry)) ⌝ }
-{
-    Contents {
-        params: read_params(bytes),
-        max_conf_bps: u16_at(bytes, 8),
-        expiry: UnixTimestamp::new(i64_at(bytes, 40)),
-        state: read_state(bytes),
-    }
-}
-
-fn no_contents() -> Contents
-    ensures { λ r. ⌜ contentsOf r ≡ noContents ⌝ }
-{
-    let params = OracleParams {
-        window_s: 0,
-        slot_s: 0,
-        slot_tolerance_s: 0,
-        min_samples: 0,
-        k_next_print: 0,
-        challenge_delay_s: 0,
-        fallback_lookback_s: 0,
-        hard_deadline_s: 0,
-        expo: 0,
-    };
-    Contents {
-        params: params,
-        max_conf_bps: 0,
-        expiry: UnixTimestamp::new(0),
-        state: SettlementState::empty(),
-    }
-}
-
-// What stands in the record of a series, acceptable or not; zeros where the look is refused.
-pub fn contents_at(book: &[u8], series: u8) -> Contents
-    ensures { λ r. ⌜ contentsOf r ≡ contentsAt (look (now (book .entry)) series) ⌝ }
-{
-    match look_result(book, series) {
-        LookResult::Ok => read_contents(look(book, series)),
-        LookResult::Refused(_) => no_contents(),
-    }
-}
-
-// The outcome by its fields: 5 is Void, which has no price.
-fn read_outcome(bytes: &[u8]) -> DecisionResult
-    requires { ⌜ length (now bytes) ≡ recordSize ⌝ }
-    ensures { λ r. ⌜ decisionOf r ≡ outcomeIn (now (bytes .entry)) ⌝ }
-{
-    let number = u8_at(bytes, 36);
-    if number == 5 {
-        return DecisionResult::Ok(Decision::Void);
-    }
-    match SettleMethod::try_from(number) {
-        MethodResult::Ok(method) => DecisionResult::Ok(Decision::Settle {
-            method: method,
-            price: StrikeUsd::new(u64_at(bytes, 192)),
-            samples: u16_at(bytes, 10),
-        }),
-        MethodResult::Err(e) => DecisionResult::Err(e),
-    }
-}
-
-// The outcome that stands in the record of a series, or 1; Void where the look is refused.
-pub fn outcome_at(book: &[u8], series: u8) -> DecisionResult
-    ensures { λ r. ⌜ decisionOf r ≡ outcomeAt (look (now (book .entry)) series) ⌝ }
-{
-    match look_result(book, series) {
-        LookResult::Ok => read_outcome(look(book, series)),
-        LookResult::Refused(_) => DecisionResult::Ok(Decision::Void),
     }
 }

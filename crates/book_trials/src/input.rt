@@ -40,7 +40,7 @@ pub(crate) fn next_byte() -> Byte {
 pub(crate) fn next_u16() -> Number {
     let mut b = [0u8; 2];
     if fill(&mut b) {
-        return Number::Of(numbers::bytes::u16_from_le(b) as u64);
+        return Number::Of(endian::u16_from_le(b) as u64);
     }
     Number::End
 }
@@ -48,7 +48,7 @@ pub(crate) fn next_u16() -> Number {
 pub(crate) fn next_u32() -> Number {
     let mut b = [0u8; 4];
     if fill(&mut b) {
-        return Number::Of(numbers::bytes::u32_from_le(b) as u64);
+        return Number::Of(endian::u32_from_le(b) as u64);
     }
     Number::End
 }
@@ -56,7 +56,7 @@ pub(crate) fn next_u32() -> Number {
 pub(crate) fn next_u64() -> Number {
     let mut b = [0u8; 8];
     if fill(&mut b) {
-        return Number::Of(numbers::bytes::u64_from_le(b));
+        return Number::Of(endian::u64_from_le(b));
     }
     Number::End
 }

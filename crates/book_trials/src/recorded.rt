@@ -3,9 +3,9 @@ use crate::input::Byte;
 use crate::input::Number;
 use crate::input::next_byte;
 use crate::input::next_u64;
-use commands::answer::Answer;
-use metalbook_core::settlement::take::Index;
-use metalbook_core::settlement::take::PrintUse;
+use answers::answer::Answer;
+use core_take::take::Index;
+use core_take::take::PrintUse;
 
 pub(crate) struct Recorded {
     pub(crate) code: u8,
@@ -55,7 +55,7 @@ pub(crate) fn of_answer(a: Answer) -> Recorded {
     match a {
         Answer::Opened => with(255, 0, 0, 0),
         Answer::Used(u) => of_use(u),
-        Answer::Wait { until } => with(253, numbers::bytes::i64_to_bits(until), 0, 0),
+        Answer::Wait { until } => with(253, endian::i64_to_bits(until), 0, 0),
         Answer::Settle {
             method,
             price,

@@ -11,8 +11,7 @@ use lib.Dec.{ltb, eqb}
 use borrow.Author.Tests.{eqb-true}
 use Rattle.rules.proofs.Bools.{both, every-at}
 use Rattle.rules.proofs.State.{parts-kept}
-use Rattle.rules.proofs.Decision.{decide-by-price}
-use Rattle.rules.proofs.Record.{outcome-back, written-read}
+use Rattle.rules.proofs.Record.{outcome-stands, written-read}
 use Rattle.rules.proofs.Bytes.{bytes-little, word-signed, little-below}
 use Rattle.rules.specs.Log.{if_then_else_, every}
 use Rattle.rules.specs.Bytes.{Bytes, areBytes, zeros, allZero, concat, little, unsignedAt, signedAt, bytes, word, signedBytes}
@@ -141,20 +140,10 @@ module _ (bs : Bytes) (len : length bs ≡ recordSize) (are : areBytes bs ≡ tr
       abbrev a : Answer
       a = outcome (method (methodIn bs)) (priceIn bs) (samplesIn bs)
 
-      -- the outcome that stands there is the decision
-      decision-stands : every (fixedTests bs) ≡ true → a ≡ d
-      decision-stands h =
-          rw (
-            eqb-true (samplesIn bs) (samplesOf d) (every-at (fixedTests bs) 1 h),
-            eqb-true (methodIn bs) (methodOf d) (every-at (fixedTests bs) 2 h),
-            eqb-true (priceIn bs) (priceOf d) (every-at (fixedTests bs) 3 h),
-          )
-          (outcome-back d (every-at (fixedTests bs) 0 h) (decide-by-price (o .terms) (o .expiry) (candidatesOf s) (fixingTimeIn bs)))
-
       fixed-back : tagIn bs ≡ 2 → every (fixedTests bs) ≡ true → bytesOf (fixed o (candidatesOf s) a (fixingTimeIn bs)) ≡ bs
       unfolding bytesOf
       fixed-back e h =
-          let same = decision-stands h in
+          let same = outcome-stands bs h in
           rw state-back
           (rebuilt 2 (samplesOf a) (methodOf a) (fixingTimeIn bs) (priceOf a)
           (ap (bytes 1) (sym e) ∙ field 0 1 (omega arith))

@@ -1,3 +1,2 @@
-pub mod Commands
 pub mod Entries
-pub mod Offers
+pub mod Applied

@@ -1,15 +1,15 @@
 // An entry of any bytes given to a book.
 ghost use mathlib.Core.Path.{_≡_};
 ghost use Rattle.rules.specs.Book.{answerTo, bookAfter};
-ghost use Rattle.commands.specs.Answers.{answerOf};
-use crate::answer::Answer;
-use crate::ask::ask;
-use crate::fix::fix;
-use crate::offer::offer;
-use crate::open::open;
-use book::command::Entry;
-use book::command::read_entry;
+ghost use Rattle.answers.specs.Answers.{answerOf};
+use crate::command::Entry;
+use crate::command::read_entry;
+use answers::answer::Answer;
 use book::look::BOOK_SIZE;
+use fixings::ask::ask;
+use fixings::fix::fix;
+use openings::offer::offer;
+use openings::open::open;
 
 // Gives an entry to the book: 35, 33 if empty, 32, 33, 34, then the command's own.
 pub fn apply(book: &mut [u8], entry: &[u8]) -> Answer

@@ -1,7 +1,4 @@
-// The commands open, offer, ask and fix on a lent book.
-pub mod answer;
+// An entry of any bytes, read as a command and given to a book. Whoever holds a book and entries may
+// call it.
 pub mod apply;
-pub mod ask;
-pub mod fix;
-pub mod offer;
-pub mod open;
+pub mod command;

@@ -7,19 +7,19 @@ use metalbook_core::settlement::state::SettlementParts;
 pub(crate) fn u16_at(b: &[u8; 352], at: usize) -> u16
     requires { ⌜ at ≤ 350 ⌝ }
 {
-    numbers::bytes::u16_from_le([b[at], b[at + 1]])
+    endian::u16_from_le([b[at], b[at + 1]])
 }
 
 pub(crate) fn u32_at(b: &[u8; 352], at: usize) -> u32
     requires { ⌜ at ≤ 348 ⌝ }
 {
-    numbers::bytes::u32_from_le([b[at], b[at + 1], b[at + 2], b[at + 3]])
+    endian::u32_from_le([b[at], b[at + 1], b[at + 2], b[at + 3]])
 }
 
 pub(crate) fn u64_at(b: &[u8; 352], at: usize) -> u64
     requires { ⌜ at ≤ 344 ⌝ }
 {
-    numbers::bytes::u64_from_le([
+    endian::u64_from_le([
         b[at],
         b[at + 1],
         b[at + 2],
@@ -34,19 +34,19 @@ pub(crate) fn u64_at(b: &[u8; 352], at: usize) -> u64
 pub(crate) fn i8_at(b: &[u8; 352], at: usize) -> i8
     requires { ⌜ at ≤ 351 ⌝ }
 {
-    numbers::bytes::i8_from_bits(b[at])
+    endian::i8_from_bits(b[at])
 }
 
 pub(crate) fn i32_at(b: &[u8; 352], at: usize) -> i32
     requires { ⌜ at ≤ 348 ⌝ }
 {
-    numbers::bytes::i32_from_bits(u32_at(b, at))
+    endian::i32_from_bits(u32_at(b, at))
 }
 
 pub(crate) fn i64_at(b: &[u8; 352], at: usize) -> i64
     requires { ⌜ at ≤ 344 ⌝ }
 {
-    numbers::bytes::i64_from_bits(u64_at(b, at))
+    endian::i64_from_bits(u64_at(b, at))
 }
 
 // The terms, which every record that has some starts with.

@@ -4,15 +4,15 @@ ghost use mathlib.Core.Path.{_≡_};
 ghost use Prim.Native.Nat.{_+_, _*_, _^_};
 ghost use Rattle.rules.specs.Mean.{mean};
 ghost use Rattle.rules.specs.Prints.{accept};
-ghost use Rattle.metalbook_core.specs.Prints.{printResultOf, quoteAt};
+ghost use Rattle.core_prices.specs.Prints.{printResultOf, quoteAt};
 ghost use Rattle.rules.specs.Log.{if_then_else_};
 ghost use Rattle.rules.specs.Book.{answerTo, bookAfter};
-ghost use Rattle.metalbook_core.specs.Uses.{indexOf};
+ghost use Rattle.core_take.specs.Uses.{indexOf};
 ghost use Rattle.entries.specs.Codes.{codeOf, storedPrice, storedAmount, placeCode, answerCode, firstAfter, secondAfter, thirdAfter};
-use commands::answer::Answer;
-use metalbook_core::settlement::mean::PriceResult;
-use metalbook_core::settlement::print::PrintResult;
-use metalbook_core::settlement::take::Index;
+use answers::answer::Answer;
+use core_prices::mean::PriceResult;
+use core_prices::print::PrintResult;
+use core_take::take::Index;
 
 // The mean of count prices with this sum, stored in price.
 #[no_mangle]
@@ -26,7 +26,7 @@ pub extern "C" fn lanternfold_to_atoms(
     ensures { λ r. ⌜ (r ≡ codeOf (mean («sum_high» * 2 ^ 64 + «sum_low») count expo))
         × (now (price .exit) ≡ storedPrice (now (price .entry)) (mean («sum_high» * 2 ^ 64 + «sum_low») count expo)) ⌝ }
 {
-    match metalbook_core::settlement::mean::to_atoms(sum_low, sum_high, count, expo) {
+    match core_prices::mean::to_atoms(sum_low, sum_high, count, expo) {
         PriceResult::Ok(p) => {
             *price = p.get();
             255
@@ -59,7 +59,7 @@ pub extern "C" fn lanternfold_accept_print(
     ensures { λ r. ⌜ (r ≡ codeOf (accept expo «max_conf_bps» (quoteAt price conf exponent «publish_time» «prev_publish_time»)))
         × (now (amount .exit) ≡ storedAmount (now (amount .entry)) (accept expo «max_conf_bps» (quoteAt price conf exponent «publish_time» «prev_publish_time»))) ⌝ }
 {
-    let r = metalbook_core::settlement::print::accept_print(
+    let r = core_prices::print::accept_print(
         price,
         conf,
         exponent,
@@ -121,7 +121,7 @@ pub extern "C" fn lanternfold_command(
             254
         }
         Answer::Wait { until } => {
-            *first = numbers::bytes::i64_to_bits(until);
+            *first = endian::i64_to_bits(until);
             253
         }
         Answer::Settle {

@@ -12,8 +12,9 @@ use Rattle.rules.specs.Log.{if_then_else_}
 use Rattle.rules.specs.Bytes.{Bytes, concat}
 use Rattle.rules.specs.Book.{bookAfter}
 use Rattle.rules.specs.Journal.{lineTo}
+use Rattle.lines.specs.Lines.{lineMax}
 use Rattle.journal.specs.Split.{entriesAt}
-use Rattle.journal.specs.Feed.{lineMax, linesFrom, short, fitting, endsIn, given, fedBy}
+use Rattle.journal.specs.Feed.{linesFrom, short, fitting, endsIn, given, fedBy}
 use Rattle.journal.specs.declared.feed.Fed.{Fed}
 use Rattle.journal.proofs.Entries as E
 use Rattle.journal.proofs.Entries.{split}

@@ -13,11 +13,12 @@ use Rattle.rules.specs.Log.{if_then_else_}
 use Rattle.rules.specs.Bytes.{Bytes, concat}
 use Rattle.rules.specs.Book.{bookAfter}
 use Rattle.rules.specs.Journal.{lineTo}
+use Rattle.lines.specs.Lines.{lineMax}
 use Rattle.journal.specs.Split.{firstWidth, ends, entriesAt}
-use Rattle.journal.specs.Feed.{lineMax, bookFrom, linesFrom, short, fitting, endsIn, given, fedBy}
+use Rattle.journal.specs.Feed.{bookFrom, linesFrom, short, fitting, endsIn, given, fedBy}
 use Rattle.journal.specs.declared.feed.Fed.{Fed}
 use Rattle.journal.proofs.Entries.{none, ending, more, split, unique, first-within}
-use Rattle.book.proofs.Stores.{sets-append}
+use Rattle.rules.proofs.Bytes.{sets-append}
 
 -- what `feed` ensures when it gave the entries es
 abbrev pub Feeds : List Bytes → Bytes → Bytes → Fed → Bytes → Bytes → Type 0

@@ -12,8 +12,9 @@ use Rattle.rules.specs.Bytes.{Bytes, zeros, concat}
 use Rattle.rules.specs.Record.{bookSize}
 use Rattle.rules.specs.Book.{bookAfter, run}
 use Rattle.rules.specs.Journal.{lineTo, commandsIn, journalEntries, sheet}
+use Rattle.lines.specs.Lines.{lineMax}
 use Rattle.journal.specs.Split.{entriesIn, entriesAt}
-use Rattle.journal.specs.Feed.{lineMax, bookFrom, linesFrom, endsIn, given}
+use Rattle.journal.specs.Feed.{bookFrom, linesFrom, endsIn, given}
 use Rattle.journal.specs.declared.feed.Fed.{Fed}
 use Rattle.journal.specs.Parts.{Reader, reads, readAll, joined, finish, AnyParts}
 use Rattle.journal.proofs.Entries.{

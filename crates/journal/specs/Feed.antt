@@ -8,12 +8,9 @@ use Rattle.rules.specs.Log.{if_then_else_}
 use Rattle.rules.specs.Bytes.{Bytes, concat}
 use Rattle.rules.specs.Book.{bookAfter}
 use Rattle.rules.specs.Journal.{lineTo}
+use Rattle.lines.specs.Lines.{lineMax}
 use Rattle.journal.specs.Split.{ends, entriesAt}
 use Rattle.journal.specs.declared.feed.Fed.{Fed}
-
--- no line is longer
-abbrev pub lineMax : ℕ
-lineMax = 96
 
 -- the book after them
 abbrev pub bookFrom : Bytes → List Bytes → Bytes

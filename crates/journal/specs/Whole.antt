@@ -10,7 +10,7 @@ use Rattle.rules.specs.Bytes.{Bytes, areBytes, concat}
 use Rattle.rules.specs.Entries.{width}
 use Rattle.rules.specs.Journal.{journalEntries, areCommands}
 use Rattle.claims.specs.Demand3.{Demand3}
-use Rattle.journal.specs.Feed.{lineMax}
+use Rattle.lines.specs.Lines.{lineMax}
 
 -- there is room for a line of each of its commands, and some more
 abbrev pub hasRoom : Bytes → ℕ → Bool

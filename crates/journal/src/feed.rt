@@ -7,11 +7,12 @@ ghost use lib.Seq.{sets};
 ghost use Rattle.rules.specs.Bytes.{unsignedAt};
 ghost use Rattle.rules.specs.Book.{bookAfter};
 ghost use Rattle.rules.specs.Journal.{lineTo};
-ghost use Rattle.journal.specs.Feed.{lineMax, bookFrom, linesFrom, short, given, fedBy};
-use crate::line::LINE_MAX;
-use crate::line::put_line;
+ghost use Rattle.lines.specs.Lines.{lineMax};
+ghost use Rattle.journal.specs.Feed.{bookFrom, linesFrom, short, given, fedBy};
 use crate::split::first_width;
 use commands::apply::apply;
+use lines::line::LINE_MAX;
+use lines::line::write_line;
 
 // How many bytes of the part were taken and how many of lines written, and whether an entry of one
 // byte was given, after which the journal has no other.
@@ -37,7 +38,8 @@ fn give(book: &mut [u8], entry: &[u8], out: &mut [u8], at: usize) -> usize
         × (length (lineTo (now (book .entry)) (now (entry .entry))) ≤ lineMax) ⌝ }
 {
     let answer = apply(book, entry);
-    put_line(out, at, series_of(entry), answer)
+    let series = series_of(entry);
+    at + write_line(&mut out[at..], series, answer)
 }
 
 // Gives the entries of a journal's part to the book, as far as there is room for their lines, which

@@ -8,8 +8,8 @@ ghost use Rattle.rules.specs.Journal.{journalEntries, sheet};
 ghost use Rattle.claims.specs.Demand3.{Demand3};
 ghost use Rattle.journal.specs.Whole.{hasRoom};
 use crate::feed::feed;
-use crate::line::LINE_MAX;
 use book::look::BOOK_SIZE;
+use lines::line::LINE_MAX;
 
 // Gives the commands of a journal to a zeroed book, and writes their lines to the front of out.
 // Answers how many bytes these are. An out without room for as many lines as such a journal could

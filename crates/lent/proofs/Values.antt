@@ -20,28 +20,28 @@ use denote.Struct.Declared.{Declared, fields, row}
 use denote.Struct.Laws as struct
 use denote.Enum.Laws as enum
 use Rattle.rules.specs.State.{addPrintCall, addPrintState}
-use Rattle.metalbook_core.specs.Params.{termsOf}
-use Rattle.metalbook_core.specs.Prints.{printOf}
+use Rattle.core_terms.specs.Params.{termsOf}
+use Rattle.core_prices.specs.Prints.{printOf}
 use Rattle.metalbook_core.specs.States.{stateOf}
-use Rattle.metalbook_core.specs.Uses.{usedOf}
+use Rattle.core_take.specs.Uses.{usedOf}
 use Rattle.metalbook_core.specs.declared.settlement.state.SettlementState.{SettlementState}
-use Rattle.metalbook_core.specs.declared.settlement.params.OracleParams.{OracleParams}
-use Rattle.metalbook_core.specs.declared.units.UnixTimestamp.{UnixTimestamp}
-use Rattle.metalbook_core.specs.declared.settlement.print.Print.{Print}
+use Rattle.core_terms.specs.declared.params.OracleParams.{OracleParams}
+use Rattle.core_terms.specs.declared.units.UnixTimestamp.{UnixTimestamp}
+use Rattle.core_prices.specs.declared.print.Print.{Print}
 use Rattle.metalbook_core.specs.declared.settlement.take.Added.{Added}
-use Rattle.metalbook_core.specs.declared.settlement.take.PrintUseResult.{PrintUseResult}
+use Rattle.core_take.specs.declared.take.PrintUseResult.{PrintUseResult}
 use Rattle.metalbook_core.proofs.settlement.state.SettlementState as S
 use Rattle.metalbook_core.proofs.settlement.state.SettlementState.Laws as SL
-use Rattle.metalbook_core.proofs.settlement.params.OracleParams as P
-use Rattle.metalbook_core.proofs.settlement.params.OracleParams.Laws as PL
-use Rattle.metalbook_core.proofs.units.UnixTimestamp as U
-use Rattle.metalbook_core.proofs.units.UnixTimestamp.Laws as UL
-use Rattle.metalbook_core.proofs.settlement.print.Print as X
-use Rattle.metalbook_core.proofs.settlement.print.Print.Laws as XL
+use Rattle.core_terms.proofs.params.OracleParams as P
+use Rattle.core_terms.proofs.params.OracleParams.Laws as PL
+use Rattle.core_terms.proofs.units.UnixTimestamp as U
+use Rattle.core_terms.proofs.units.UnixTimestamp.Laws as UL
+use Rattle.core_prices.proofs.print.Print as X
+use Rattle.core_prices.proofs.print.Print.Laws as XL
 use Rattle.metalbook_core.proofs.settlement.take.Added as D
 use Rattle.metalbook_core.proofs.settlement.take.Added.Laws as DL
-use Rattle.metalbook_core.proofs.settlement.take.PrintUseResult as N
-use Rattle.metalbook_core.proofs.settlement.take.PrintUseResult.Laws as NL
+use Rattle.core_take.proofs.take.PrintUseResult as N
+use Rattle.core_take.proofs.take.PrintUseResult.Laws as NL
 
 -- ---- the types
 

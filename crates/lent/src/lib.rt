@@ -1,10 +1,10 @@
 // The entry that lends the state, as the Rust's `add_print(&mut self, ..)` does.
 ghost use mathlib.Core.Path.{_≡_};
 ghost use Rattle.rules.specs.State.{addPrintCall, addPrintState};
-ghost use Rattle.metalbook_core.specs.Params.{termsOf};
-ghost use Rattle.metalbook_core.specs.Prints.{printOf};
+ghost use Rattle.core_terms.specs.Params.{termsOf};
+ghost use Rattle.core_prices.specs.Prints.{printOf};
 ghost use Rattle.metalbook_core.specs.States.{stateOf};
-ghost use Rattle.metalbook_core.specs.Uses.{usedOf};
+ghost use Rattle.core_take.specs.Uses.{usedOf};
 use metalbook_core::settlement::params::OracleParams;
 use metalbook_core::settlement::print::Print;
 use metalbook_core::settlement::state::SettlementState;

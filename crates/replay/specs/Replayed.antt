@@ -1,7 +1,7 @@
 -- What was answered last, read as the rules' answer.
 use mathlib.Core.Option.{Option, none, some}
 use Rattle.rules.specs.Answers as R
-use Rattle.commands.specs.Answers.{answerOf}
+use Rattle.answers.specs.Answers.{answerOf}
 use Rattle.replay.specs.declared.Replayed.{Replayed}
 use Rattle.replay.specs.declared.Replayed.the-variants as P
 

@@ -10,11 +10,11 @@ ghost use Rattle.rules.specs.Answers.{Refused};
 ghost use Rattle.rules.specs.Record.{bookSize};
 ghost use Rattle.rules.specs.Book.{answerTo, bookAfter, run};
 ghost use Rattle.claims.specs.Demand3.{Demand3};
-ghost use Rattle.commands.specs.Answers.{answerOf};
+ghost use Rattle.answers.specs.Answers.{answerOf};
 ghost use Rattle.replay.specs.Entries.{cut, entriesOf, lastAnswer};
 ghost use Rattle.replay.specs.Replayed.{replayedOf};
+use answers::answer::Answer;
 use book::look::BOOK_SIZE;
-use commands::answer::Answer;
 use commands::apply::apply;
 
 // What the last entry was answered; an empty list has none.

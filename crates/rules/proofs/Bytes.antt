@@ -2,10 +2,11 @@
 use Prim.Native.Nat.{ℕ, zero, suc, _+_, _*_, _-_, _/_, _%_, _^_, _<_}
 use mathlib.Core.Path.{_≡_, refl, ap}
 use mathlib.Core.Bool.{Bool, true, false}
-use mathlib.Core.List.{[], _∷_}
+use mathlib.Core.List.{[], _∷_, _++_}
 use native.Mathlib.Omega.{arith}
-use native.Mathlib.Nat.{pow-suc}
-use lib.ListN.{length, take}
+use native.Mathlib.Nat.{add-zero, add-suc, suc-add, pow-suc}
+use lib.ListN.{length, take, set}
+use lib.Seq.{sets}
 use lib.IntN.{ℤ, pos, negsuc}
 use lib.Signed.{mag}
 use lib.Dec.{ltb}
@@ -86,3 +87,9 @@ module _ (w : ℕ) where
       go : (b : Bool) → word (suc w) (if b then pos n else negsuc (2 ^ suc w - 1 - n)) ≡ n
       go true = refl
       go false = omega arith
+
+-- ---- bytes stored one after the other
+
+pub sets-append : (f g l : Bytes) (i : ℕ) → sets (sets l i f) (i + length f) g ≡ sets l i (f ++ g)
+sets-append [] g l i = rw add-zero
+sets-append (x ∷ f) g l i = rw (add-suc, ← suc-add) (sets-append f g (set l i x) (suc i))

@@ -51,8 +51,21 @@ abbrev lastly : Log Command → Answer
 lastly ε = Opened
 lastly (j ▹ c) = answer (given j) c
 
+-- P9: its expiry, and the series with one print for each slot in turn
 abbrev late : ℕ
 late = 2 ^ 63 - 51
+
+abbrev slot0 : Log Command
+slot0 = ε ▹ like 2 100 late ▹ print 0 (late - 40) (late - 41)
+
+abbrev slot1 : Log Command
+slot1 = slot0 ▹ print 0 (late - 30) (late - 31)
+
+abbrev slot2 : Log Command
+slot2 = slot1 ▹ print 0 (late - 20) (late - 21)
+
+abbrev slot3 : Log Command
+slot3 = slot2 ▹ print 0 (late - 10) (late - 11)
 
 -- what one of them shows: answers to commands, or means
 data Fixing : Type 0 where
@@ -69,8 +82,7 @@ computed =
     ∷ answers (lastly (ε ▹ those ▹ print 0 1001 1000) ∷ [])
     ∷ answers (lastly (ε ▹ those ▹ print 2000 962 959) ∷ lastly (ε ▹ those ▹ print 2001 962 959) ∷ [])
     ∷ answers (lastly (ε ▹ those ▹ Ask (pos 999)) ∷ lastly (ε ▹ those ▹ Ask (pos 1000)) ∷ lastly (ε ▹ those ▹ Ask (pos 1100)) ∷ lastly (ε ▹ those ▹ Ask (pos 1105)) ∷ [])
-    ∷ answers (lastly (ε ▹ like 2 100 late ▹ print 0 (late - 40) (late - 41) ▹ print 0 (late - 30) (late - 31)
-    ▹ print 0 (late - 20) (late - 21) ▹ print 0 (late - 10) (late - 11) ▹ Ask (pos late)) ∷ [])
+    ∷ answers (lastly slot0 ∷ lastly slot1 ∷ lastly slot2 ∷ lastly slot3 ∷ lastly (slot3 ▹ Ask (pos late)) ∷ [])
     ∷ means (mean 3 2 (negℤ (pos 6)) ∷ mean 5 4 (negℤ (pos 6)) ∷ [])
     ∷ means (mean 499999 1 (negℤ (pos 12)) ∷ mean 500000 1 (negℤ (pos 12)) ∷ [])
     ∷ means (mean (2 ^ 65 - 2) 2 (negℤ (pos 6)) ∷ mean (2 ^ 65 - 1) 2 (negℤ (pos 6)) ∷ []) ∷ []
@@ -86,7 +98,7 @@ said =
     ∷ answers (Used none (some 0) false ∷ [])
     ∷ answers (Used (some 0) none true ∷ Refused 17 ∷ [])
     ∷ answers (Wait (pos 1000) ∷ Wait (pos 1100) ∷ Wait (pos 1105) ∷ Answer.Void ∷ [])
-    ∷ answers (Refused 0 ∷ [])
+    ∷ answers (Used (some 0) none true ∷ Used (some 1) none true ∷ Used (some 2) none true ∷ Used (some 3) none true ∷ Refused 0 ∷ [])
     ∷ means (ok 2 ∷ ok 1 ∷ [])
     ∷ means (ok 0 ∷ ok 1 ∷ [])
     ∷ means (ok (2 ^ 64 - 1) ∷ refused 0 ∷ []) ∷ []

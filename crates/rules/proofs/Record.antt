@@ -10,11 +10,11 @@ use lib.IntN.{ℤ, pos}
 use lib.Signed.{mag}
 use lib.Dec.{ltb, eqb, lit<}
 use lib.Pow.{shr-lt}
-use borrow.Author.Tests.{ltb-true, lt-ltb, eq-eqb, ne-eqb}
+use borrow.Author.Tests.{ltb-true, lt-ltb, eqb-true, eq-eqb, ne-eqb}
 use Rattle.rules.proofs.Bools.{both, test, every-at}
 use Rattle.rules.proofs.Bytes.{little-bytes, signed-word, word-below}
 use Rattle.rules.proofs.State.{fit-at, few-times, parts-back}
-use Rattle.rules.proofs.Decision.{byPrice}
+use Rattle.rules.proofs.Decision.{byPrice, decide-by-price}
 use Rattle.rules.proofs.Fields.{commandFits, ledger-fits}
 use Rattle.rules.proofs.Acceptable.{sound, ledger-sound}
 use Rattle.rules.specs.Log.{Log, ε, _▹_, if_then_else_, maybe, size, all, nth, every}
@@ -24,7 +24,7 @@ use Rattle.rules.specs.Terms.{goodTerms}
 use Rattle.rules.specs.Taking.{Candidates}
 use Rattle.rules.specs.State.{candidatesOf, partsOf, goodState}
 use Rattle.rules.specs.Series.{Opening, Command, Series, empty, live, fixed, decided}
-use Rattle.rules.specs.Record.{methodOf, samplesOf, priceOf, fields, bytesOf, outcome, openingIn, partsIn, tagIn, samplesIn, methodIn, fixingTimeIn, priceIn, seriesIn, bodyTests, acceptable, stored, openingFields, openingFits, candidatesFit, outcomeFits, seriesFits}
+use Rattle.rules.specs.Record.{methodOf, samplesOf, priceOf, fields, bytesOf, outcome, openingIn, partsIn, tagIn, samplesIn, methodIn, fixingTimeIn, priceIn, seriesIn, bodyTests, fixedTests, acceptable, stored, openingFields, openingFits, candidatesFit, outcomeFits, seriesFits}
 use Rattle.rules.specs.Ledger.{opening, takenPrints, candidates, Freeze, freeze, since, ledger}
 
 -- ---- single fields
@@ -172,13 +172,27 @@ method-fits (Used s l f) = refl
 method-fits (Wait t) = refl
 method-fits (Refused r) = refl
 
-pub outcome-back : (a : Answer) → final a ≡ true → byPrice a ≡ true → outcome (method (methodOf a)) (priceOf a) (samplesOf a) ≡ a
+outcome-back : (a : Answer) → final a ≡ true → byPrice a ≡ true → outcome (method (methodOf a)) (priceOf a) (samplesOf a) ≡ a
 outcome-back (Settle m p n) f h = rw (method-number m, priced-method m h)
 outcome-back Answer.Void f h = rw (method-number Method.Void)
 outcome-back Opened f h = cc
 outcome-back (Used s l u) f h = cc
 outcome-back (Wait t) f h = cc
 outcome-back (Refused r) f h = cc
+
+-- the outcome that stands in a fixed record is the decision at its fixing time
+pub outcome-stands : (bs : Bytes) → every (fixedTests bs) ≡ true
+    → outcome (method (methodIn bs)) (priceIn bs) (samplesIn bs) ≡ decided (openingIn bs) (candidatesOf (partsIn bs)) (fixingTimeIn bs)
+outcome-stands bs h =
+    let o = openingIn bs in
+    let c = candidatesOf (partsIn bs) in
+    let d = decided o c (fixingTimeIn bs) in
+    rw (
+      eqb-true (samplesIn bs) (samplesOf d) (every-at (fixedTests bs) 1 h),
+      eqb-true (methodIn bs) (methodOf d) (every-at (fixedTests bs) 2 h),
+      eqb-true (priceIn bs) (priceOf d) (every-at (fixedTests bs) 3 h),
+    )
+    (outcome-back d (every-at (fixedTests bs) 0 h) (decide-by-price (o .terms) (o .expiry) c (fixingTimeIn bs)))
 
 -- what it is for an outcome to fit
 fitting : (a : Answer) → outcomeFits a ≡ true → (final a ≡ true) × (byPrice a ≡ true) × (fitsUnsigned 2 (samplesOf a) ≡ true) × (fitsUnsigned 8 (priceOf a) ≡ true)

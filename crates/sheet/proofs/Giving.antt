@@ -6,8 +6,9 @@ use native.Mathlib.Omega.{arith}
 use lib.ListN.{length, take, drop, length-drop}
 use lib.Seq.{sets, length-take-le}
 use Rattle.rules.specs.Bytes.{Bytes}
+use Rattle.lines.specs.Lines.{lineMax}
 use Rattle.journal.specs.declared.feed.Fed.{Fed}
-use Rattle.journal.specs.Feed.{lineMax, given}
+use Rattle.journal.specs.Feed.{given}
 use Rattle.journal.specs.Parts.{on, reads}
 use Rattle.journal.proofs.Given.{Feeds}
 use Rattle.journal.proofs.Fits.{fed-taken, fed-written, fed-left}

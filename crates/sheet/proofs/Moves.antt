@@ -8,7 +8,7 @@ use native.Mathlib.Numerals.{add-one}
 use lib.ListN.{length, take, drop, getD, set, length-drop}
 use lib.Seq.{sets, sets-eq, take-suc, getD-drop, getD-append-add, length-take-le, take-nil}
 use Rattle.rules.specs.Bytes.{Bytes}
-use Rattle.book.proofs.Stores.{sets-append}
+use Rattle.rules.proofs.Bytes.{sets-append}
 
 -- what stands behind the bytes at the front is still there
 behind : (xs l : Bytes) (n : ℕ) → length xs ≤ length l → getD (sets l 0 xs) (length xs + n) 0 ≡ getD l (length xs + n) 0

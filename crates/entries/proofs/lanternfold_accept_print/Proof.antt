@@ -1,7 +1,7 @@
 use mathlib.Core.Path.{sym, ap, _∙_}
 use mir.Facts.{toZ-ofZ}
 use borrow.Author.Needs.{needs}
-use Rattle.metalbook_core.specs.Prints.{printOf, printResultOf}
+use Rattle.core_prices.specs.Prints.{printOf, printResultOf}
 use Rattle.entries.specs.Codes.{codeOf}
 use Rattle.entries.proofs.lanternfold_accept_print.Statement.{statement}
 use Rattle.entries.proofs.lanternfold_accept_print.Tie as tie

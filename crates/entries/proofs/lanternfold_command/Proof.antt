@@ -2,7 +2,7 @@ use mathlib.Core.Path.{refl, sym, ap, _∙_}
 use mir.Syntax.{w64}
 use mir.Val.{SFits}
 use mir.Facts.{toZ-ofZ}
-use Rattle.commands.specs.Answers.{answerOf}
+use Rattle.answers.specs.Answers.{answerOf}
 use borrow.Author.Needs.{needs}
 use Rattle.entries.proofs.lanternfold_command.Statement.{statement}
 use Rattle.entries.proofs.lanternfold_command.Tie as tie

@@ -1,7 +1,7 @@
 use mathlib.Core.Path.{sym, ap, _∙_}
 use mir.Facts.{toZ-ofZ}
 use borrow.Author.Needs.{needs}
-use Rattle.metalbook_core.specs.Prices.{priceOf}
+use Rattle.core_prices.specs.Prices.{priceOf}
 use Rattle.entries.proofs.lanternfold_to_atoms.Statement.{statement}
 use Rattle.entries.proofs.lanternfold_to_atoms.Tie as tie
 

@@ -37,7 +37,7 @@ use denote.Triple.Table.{entered, cited}
 use denote.Triple.Walked.{says, Stays, stay-none, walkOf, AllGo, goes-none, Walks, ends-at, walked, walk-meets}
 use denote.Exit.{yes}
 use Rattle.metalbook_core.specs.declared.settlement.state.SettlementState.{SettlementState}
-use Rattle.metalbook_core.specs.declared.settlement.take.PrintUseResult.{PrintUseResult}
+use Rattle.core_take.specs.declared.take.PrintUseResult.{PrintUseResult}
 use Rattle.lent.proofs.Values.{state, params, expiry, print, seconds, result, added, Good, good, both, good-both, Rest, rest-rows, rest-vals, GoodRest, rest, rest-owned, Taken}
 use Rattle.lent.proofs.add_print as add
 use Rattle.lent.proofs.add_print.Symbol as add-def

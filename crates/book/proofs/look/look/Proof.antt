@@ -3,7 +3,7 @@ use mathlib.Core.List.{[]}
 use native.Mathlib.Omega.{arith}
 use borrow.Author.Needs.{needs}
 use Rattle.rules.specs.Book.{look}
-use Rattle.metalbook_core.specs.States.{valueOr}
+use Rattle.core_parts.specs.States.{valueOr}
 use Rattle.book.specs.declared.look.LookResult.the-variants as L
 use Rattle.book.specs.Looks.{lookResultOf}
 use Rattle.book.proofs.Records.{refused-look, part-is, in-book, looked}

@@ -1,4 +1,4 @@
-use Rattle.metalbook_core.specs.Params.{termsOf}
+use Rattle.core_terms.specs.Params.{termsOf}
 use Rattle.book.specs.Records.{noContents}
 use borrow.Author.Needs.{needs}
 use Rattle.book.proofs.record.no_contents.Statement.{statement}

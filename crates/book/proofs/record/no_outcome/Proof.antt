@@ -2,7 +2,7 @@ use Prim.Native.Nat.{ℕ}
 use mathlib.Core.Path.{ap}
 use lib.Dec.{eqb}
 use borrow.Author.Needs.{needs}
-use Rattle.book.proofs.Offsets.{met, missed, fourth}
+use Rattle.fields.proofs.Offsets.{met, missed, fourth}
 use Rattle.book.proofs.record.no_outcome.Statement.{statement}
 use Rattle.book.proofs.record.no_outcome.Tie as tie
 

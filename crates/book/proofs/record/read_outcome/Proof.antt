@@ -2,8 +2,8 @@ use mathlib.Core.Path.{_≡_, sym, ap, _∙_}
 use borrow.Author.Tests.{ne-eqb}
 use Rattle.rules.specs.Answers.{ok, refused, number, method, Settle}
 use Rattle.rules.specs.Record.{methodIn}
-use Rattle.metalbook_core.specs.Errors.{numberOf}
-use Rattle.metalbook_core.specs.Decisions.{methodOf, methodResultOf}
+use Rattle.core_terms.specs.Errors.{numberOf}
+use Rattle.core_decide.specs.Decisions.{methodOf, methodResultOf}
 use Rattle.book.proofs.Records.{method-back}
 use borrow.Author.Needs.{needs}
 use Rattle.book.proofs.record.read_outcome.Statement.{statement}

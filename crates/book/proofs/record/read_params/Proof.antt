@@ -1,8 +1,8 @@
 use mir.Syntax.{w8}
 use borrow.Author.Needs.{needs}
 use Rattle.rules.specs.Record.{openingIn}
-use Rattle.metalbook_core.specs.Params.{termsOf}
-use Rattle.book.proofs.Offsets.{came}
+use Rattle.core_terms.specs.Params.{termsOf}
+use Rattle.fields.proofs.Offsets.{came}
 use Rattle.book.proofs.record.read_params.Statement.{statement}
 use Rattle.book.proofs.record.read_params.Tie as tie
 

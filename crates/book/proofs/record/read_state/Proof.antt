@@ -3,8 +3,8 @@ use mathlib.Core.List.{[], _∷_}
 use mir.Syntax.{w64}
 use borrow.Author.Needs.{needs}
 use Rattle.rules.specs.Record.{partsIn}
-use Rattle.metalbook_core.specs.States.{stateOf}
-use Rattle.book.proofs.Offsets.{came}
+use Rattle.core_parts.specs.States.{storedOf}
+use Rattle.fields.proofs.Offsets.{came}
 use Rattle.book.proofs.record.read_state.Statement.{statement}
 use Rattle.book.proofs.record.read_state.Tie as tie
 
@@ -66,7 +66,7 @@ i64-at-requires-9 : tie.Need-i64-at-requires-9
 i64-at-requires-9 c κs = search needs
 
 returns : tie.Need-returns
-unfolding stateOf partsIn
+unfolding storedOf partsIn
 returns c =
     let f = c .before .before .before .before in
     let p = f .before .before in

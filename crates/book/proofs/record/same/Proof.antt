@@ -1,6 +1,6 @@
 use borrow.Author.Needs.{needs}
 use Rattle.rules.proofs.Bools.{and-true}
-use Rattle.book.proofs.Offsets.{met, missed}
+use Rattle.fields.proofs.Offsets.{met, missed}
 use Rattle.book.proofs.record.same.Statement.{statement}
 use Rattle.book.proofs.record.same.Tie as tie
 

@@ -6,7 +6,7 @@ use borrow.Author.Needs.{needs}
 use borrow.Author.Tests.{lt-ltb, le-ltb}
 use Rattle.rules.specs.Bytes.{unsignedAt}
 use Rattle.rules.specs.Record.{tagIn}
-use Rattle.book.proofs.Offsets.{missed}
+use Rattle.fields.proofs.Offsets.{missed}
 use Rattle.book.proofs.record.status_of.Statement.{statement}
 use Rattle.book.proofs.record.status_of.Tie as tie
 

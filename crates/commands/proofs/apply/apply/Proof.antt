@@ -6,10 +6,10 @@ use mir.Val.{SFits}
 use mir.Facts.{toZ-ofZ}
 use Rattle.rules.specs.Series.{Open, Offer, Ask, Fix}
 use Rattle.rules.specs.Record.{bookSize}
-use Rattle.metalbook_core.specs.Prints.{quoteOf}
+use Rattle.core_prices.specs.Prints.{quoteOf}
 use Rattle.book.specs.Records.{openingWith}
-use Rattle.book.specs.Entries.{entryOf}
-use Rattle.commands.proofs.Entries.{asked, no-book, no-command, by-command}
+use Rattle.commands.specs.Entries.{entryOf}
+use Rattle.commands.proofs.Applied.{asked, no-book, no-command, by-command}
 use borrow.Author.Needs.{needs}
 use Rattle.commands.proofs.apply.apply.Statement.{statement}
 use Rattle.commands.proofs.apply.apply.Tie as tie

@@ -7,7 +7,7 @@ use borrow.Author.Tests.{lt-leb, le-leb}
 use Rattle.rules.specs.Bytes.{zeros}
 use Rattle.rules.specs.Record.{bookSize}
 use Rattle.claims.proofs.Entries.{are-bytes}
-use Rattle.journal.specs.Feed.{lineMax}
+use Rattle.lines.specs.Lines.{lineMax}
 use Rattle.journal.proofs.Fits.{fed-written}
 use Rattle.journal.proofs.Parts.{whole-sheet}
 use Rattle.journal.proofs.Whole.{whole-journal}

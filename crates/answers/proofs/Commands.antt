@@ -1,0 +1,81 @@
+-- What a command answers and leaves, by what was found in the record.
+use Prim.Native.Nat.{ℕ}
+use mathlib.Core.Path.{_≡_, refl, sym, ap, _∙_}
+use mathlib.Core.Bool.{Bool, true, false, _&&_}
+use lib.ListN.{length}
+use lib.IntN.{ℤ}
+use Rattle.rules.specs.Log.{if_then_else_}
+use Rattle.rules.specs.Bytes.{Bytes}
+use Rattle.rules.specs.Answers.{Result, ok, refused}
+use Rattle.rules.specs.Terms.{goodTerms}
+use Rattle.rules.specs.State.{Parts, candidatesOf, partsOf, goodState, decideCall}
+use Rattle.rules.specs.Series.{Command, Opening, Series, live}
+use Rattle.rules.specs.Record.{openingIn, partsIn}
+use Rattle.rules.specs.Book.{recordAt, look, storedAnswer, written}
+use Rattle.rules.proofs.State.{parts-kept}
+use Rattle.core_decide.specs.declared.decide.Decision.{Decision}
+use Rattle.core_decide.specs.declared.decide.Decision.the-variants as N
+use Rattle.core_decide.specs.Decisions as D
+use Rattle.book.specs.declared.record.Status.{Status}
+use Rattle.book.specs.Looks.{Allowed}
+use Rattle.book.specs.Records.{statusAs, statusIn, storedAt, Held, contentsFrom, decisionIn}
+use Rattle.book.proofs.Records.{partAt, part-is, status-found, isRefused, not-refused, allowed-part, decision-of, contents-looked}
+use Rattle.answers.specs.Commands.{Untested, answerAt, afterAt, bookAnswer}
+
+-- a decision is no refusal
+pub plain : (d : Decision) → D.answerOf d ≡ bookAnswer (D.answerOf d)
+plain (N.Settle m price samples) = refl
+plain N.Void = refl
+plain (N.Wait until) = refl
+
+-- ---- the status says what is stored
+
+module _ (book : Bytes) (s : ℕ) {r st : Status} (h : r ≡ statusIn (look book s)) (e : r ≡ st) where
+  read : statusIn (look book s) ≡ st
+  read = sym h ∙ e
+
+  found : statusAs st (recordAt s book) ≡ storedAt book s
+  found = ap (λ (x : Status). statusAs x (recordAt s book)) (sym read) ∙ status-found book s
+
+  pub answered : (c : Command) → storedAnswer (statusAs st (recordAt s book)) c ≡ answerAt book s c
+  answered c = ap (λ (x : Result Series). storedAnswer x c) found
+
+  pub left : (c : Command) → written s book (statusAs st (recordAt s book)) c ≡ afterAt book s c
+  left c = ap (λ (x : Result Series). written s book x c) found
+
+  pub allowed : isRefused st ≡ false → Allowed book s
+  allowed k = not-refused book s (ap isRefused read ∙ k)
+
+-- ---- a record that is still to be tested, by what was read of it
+
+-- what is stored, by the tests of the terms and of the state
+abbrev pub testedAs : Bool → Opening → Parts → Result Series
+testedAs b o p = if b then ok (live o (candidatesOf p)) else refused 11
+
+abbrev pub tested : Opening → Parts → Result Series
+tested o p = testedAs (goodTerms (o .terms) && goodState (o .terms) p) o p
+
+module _ (book : Bytes) (s : ℕ) (h : Untested book s) where
+  pub may-look : Allowed book s
+  may-look = not-refused book s (ap isRefused h)
+
+  abbrev bs : Bytes
+  bs = recordAt s book
+
+  pub open-found : tested (openingIn bs) (partsIn bs) ≡ storedAt book s
+  open-found = ap (λ (x : Status). statusAs x bs) (sym h) ∙ status-found book s
+
+  -- its state goes back into the same bytes
+  pub open-kept : goodState (openingIn bs .terms) (partsIn bs) ≡ true → partsOf (candidatesOf (partsIn bs)) ≡ partsIn bs
+  unfolding partsIn
+  open-kept g = parts-kept (openingIn bs .terms) (partsIn bs) g refl refl
+
+  -- by the fields of its part
+  pub held-found : {x : Held} → x ≡ contentsFrom (partAt s book) → tested (x .opening) (x .parts) ≡ storedAt book s
+  held-found k = let e = k ∙ contents-looked book s may-look in (λ i. tested (e i .opening) (e i .parts)) ∙ open-found
+
+  -- and the decision on it
+  pub part-decided : (now : ℤ) → decisionIn (partAt s book) now ≡ decideCall (openingIn bs .terms) (openingIn bs .expiry) (partsIn bs) now
+  part-decided now =
+      ap (λ (x : Bytes). decisionIn x now) (part-is s book)
+      ∙ decision-of bs now (ap (λ (x : Bytes). length x) (sym (part-is s book)) ∙ allowed-part book s may-look)

@@ -1,0 +1,275 @@
+// The settlement cascade: what a series' candidates settle at, and from when.
+ghost use mathlib.Core.Path.{_≡_};
+ghost use Prim.Native.Nat.{min, _+_, _*_, _^_, _≤_, _<_};
+ghost use lib.IntN.{ℤ, pos, _+ℤ_};
+ghost use Rattle.rules.specs.Log.{front, total};
+ghost use Rattle.rules.specs.Answers.{Answer, number, method};
+ghost use Rattle.rules.specs.Decision.{ones, settle, from, decide};
+ghost use Rattle.rules.specs.State.{candidatesOf, decideCall};
+ghost use Rattle.numbers.specs.Wides.{wideOf};
+ghost use Rattle.core_terms.specs.Params.{termsOf};
+ghost use Rattle.core_parts.specs.States.{storedOf};
+ghost use Rattle.core_decide.specs.Decisions.{methodOf, methodResultOf, decisionOf, dueOf, decideFrom};
+use core_parts::state::SettlementParts;
+use core_prices::mean::PriceResult;
+use core_prices::mean::to_atoms;
+use core_terms::error::CoreError;
+use core_terms::params::OracleParams;
+use core_terms::units::StrikeUsd;
+use core_terms::units::UnixTimestamp;
+
+pub enum SettleMethod {
+    Window,
+    NextPrint,
+    PartialNextPrint,
+    PartialWindow,
+    Fallback,
+    Void,
+}
+
+pub enum MethodResult {
+    Ok(SettleMethod),
+    Err(CoreError),
+}
+
+impl SettleMethod {
+    pub fn try_from(value: u8) -> MethodResult
+        ensures { λ r. ⌜ methodResultOf r ≡ method value ⌝ }
+    {
+        match value {
+            0 => MethodResult::Ok(SettleMethod::Window),
+            1 => MethodResult::Ok(SettleMethod::NextPrint),
+            2 => MethodResult::Ok(SettleMethod::PartialNextPrint),
+            3 => MethodResult::Ok(SettleMethod::PartialWindow),
+            4 => MethodResult::Ok(SettleMethod::Fallback),
+            5 => MethodResult::Ok(SettleMethod::Void),
+            _ => MethodResult::Err(CoreError::InvalidDiscriminant),
+        }
+    }
+
+    pub fn number(self) -> u8
+        ensures { λ r. ⌜ r ≡ number (methodOf self) ⌝ }
+    {
+        match self {
+            SettleMethod::Window => 0,
+            SettleMethod::NextPrint => 1,
+            SettleMethod::PartialNextPrint => 2,
+            SettleMethod::PartialWindow => 3,
+            SettleMethod::Fallback => 4,
+            SettleMethod::Void => 5,
+        }
+    }
+}
+
+pub enum Decision {
+    Settle {
+        method: SettleMethod,
+        price: StrikeUsd,
+        samples: u16,
+    },
+    Void,
+    Wait {
+        until: i64,
+    },
+}
+
+pub enum DecisionResult {
+    Ok(Decision),
+    Err(CoreError),
+}
+
+// Whether a time has come.
+enum Due {
+    Now,
+    Wait(i64),
+    Overflow,
+}
+
+// Whether t + d has come.
+fn reached(t: i64, d: u32, now: i64) -> Due
+    ensures { λ r. ⌜ ((a : Answer) → dueOf r a ≡ from now (t +ℤ pos d) a) ⌝ }
+{
+    let numbers::time::Time::At(until) = numbers::time::after(t, d) else {
+        return Due::Overflow;
+    };
+    if now < until {
+        return Due::Wait(until);
+    }
+    Due::Now
+}
+
+// By the mean of count prices with the sum high * 2^64 + low.
+fn settle(method: SettleMethod, low: u64, high: u64, count: u16, expo: i8) -> DecisionResult
+    ensures { λ r. ⌜ decisionOf r ≡ settle expo (methodOf method) (high * 2 ^ 64 + low) count ⌝ }
+{
+    match to_atoms(low, high, count as u32, expo) {
+        PriceResult::Ok(price) => DecisionResult::Ok(Decision::Settle {
+            method: method,
+            price: price,
+            samples: count,
+        }),
+        PriceResult::Err(e) => DecisionResult::Err(e),
+    }
+}
+
+// The same from t + d on.
+fn settle_from(
+    t: i64,
+    d: u32,
+    now: i64,
+    method: SettleMethod,
+    low: u64,
+    high: u64,
+    count: u16,
+    expo: i8,
+) -> DecisionResult
+    ensures { λ r. ⌜ decisionOf r ≡ from now (t +ℤ pos d) (settle expo (methodOf method) (high * 2 ^ 64 + low) count) ⌝ }
+{
+    match reached(t, d, now) {
+        Due::Now => settle(method, low, high, count, expo),
+        Due::Wait(until) => DecisionResult::Ok(Decision::Wait { until: until }),
+        Due::Overflow => DecisionResult::Err(CoreError::Overflow),
+    }
+}
+
+// w + x, for a sum of few numbers.
+fn plus(w: numbers::wide::Wide, x: u64) -> numbers::wide::Wide
+    requires { ⌜ w .high < 5 ⌝ }
+    ensures { λ r. ⌜ (wideOf r ≡ wideOf w + x) × (r .high ≤ w .high + 1) ⌝ }
+{
+    let numbers::wide::Sum::Of(sum) = numbers::wide::plus(w, x) else {
+        return w;
+    };
+    sum
+}
+
+// A number of links, at most the five that there is room for.
+fn at_most_five(len: u8) -> usize
+    ensures { λ r. ⌜ r ≡ min len 5 ⌝ }
+{
+    if len < 5 { len as usize } else { 5 }
+}
+
+// The sum of the first len prices.
+fn chain_sum(prices: [u64; 5], len: u8) -> numbers::wide::Wide
+    ensures { λ r. ⌜ wideOf r ≡ total (front 0 len prices) ⌝ }
+{
+    let n = at_most_five(len);
+    let mut sum = numbers::wide::Wide { high: 0, low: 0 };
+    let mut i: usize = 0;
+    while i < n {
+        sum = plus(sum, prices[i]);
+        i += 1;
+    }
+    sum
+}
+
+// By the mean of the first len prices, from t + d on. The sum is taken only then.
+fn chain_from(
+    t: i64,
+    d: u32,
+    now: i64,
+    method: SettleMethod,
+    prices: [u64; 5],
+    len: u8,
+    expo: i8,
+) -> DecisionResult
+    ensures { λ r. ⌜ decisionOf r ≡ from now (t +ℤ pos d) (settle expo (methodOf method) (total (front 0 len prices)) len) ⌝ }
+{
+    match reached(t, d, now) {
+        Due::Now => {
+            let sum = chain_sum(prices, len);
+            settle(method, sum.low, sum.high, len as u16, expo)
+        }
+        Due::Wait(until) => DecisionResult::Ok(Decision::Wait { until: until }),
+        Due::Overflow => DecisionResult::Err(CoreError::Overflow),
+    }
+}
+
+// No price, from t + d on.
+fn void_from(t: i64, d: u32, now: i64) -> DecisionResult
+    ensures { λ r. ⌜ decisionOf r ≡ from now (t +ℤ pos d) Answer.Void ⌝ }
+{
+    match reached(t, d, now) {
+        Due::Now => DecisionResult::Ok(Decision::Void),
+        Due::Wait(until) => DecisionResult::Ok(Decision::Wait { until: until }),
+        Due::Overflow => DecisionResult::Err(CoreError::Overflow),
+    }
+}
+
+// The steps from the hard deadline on, with n slots filled.
+fn partial(p: OracleParams, s: SettlementParts, n: u16, hard: i64, now: i64) -> DecisionResult
+    ensures { λ r. ⌜ ((E : ℤ) → hard ≡ E +ℤ pos (p .«hard_deadline_s») → n ≡ ones (s .«filled_slots») → decisionOf r ≡ decideFrom 5 (termsOf p) E (candidatesOf (storedOf s)) now) ⌝ }
+{
+    if now < hard {
+        return DecisionResult::Ok(Decision::Wait { until: hard });
+    }
+    let d = p.challenge_delay_s;
+    let expo = p.expo;
+    let m = s.next_len;
+    if 0 < m {
+        let t = numbers::time::later(hard, s.next_print_changed);
+        let prices = s.next_prices;
+        return chain_from(t, d, now, SettleMethod::PartialNextPrint, prices, m, expo);
+    }
+    if 0 < n {
+        let t = numbers::time::later(hard, s.window_changed);
+        let low = s.sample_sum_low;
+        let high = s.sample_sum_high;
+        return settle_from(t, d, now, SettleMethod::PartialWindow, low, high, n, expo);
+    }
+    let price = s.fallback_price;
+    if 0 < price {
+        let t = numbers::time::later(hard, s.fallback_changed);
+        return settle_from(t, d, now, SettleMethod::Fallback, price, 0, 1, expo);
+    }
+    void_from(hard, d, now)
+}
+
+// The decision at the time now on a series with the terms p that expires at expiry.
+fn cascade(p: OracleParams, s: SettlementParts, expiry: i64, now: i64) -> DecisionResult
+    ensures { λ r. ⌜ decisionOf r ≡ decide (termsOf p) expiry (candidatesOf (storedOf s)) now ⌝ }
+{
+    if now < expiry {
+        return DecisionResult::Ok(Decision::Wait { until: expiry });
+    }
+    let numbers::time::Time::At(hard) = numbers::time::after(expiry, p.hard_deadline_s) else {
+        return DecisionResult::Err(CoreError::Overflow);
+    };
+    let n = u32::count_ones(s.filled_slots) as u16;
+    let low = s.sample_sum_low;
+    let high = s.sample_sum_high;
+    let expo = p.expo;
+    if p.slots() <= (n as u32) {
+        return settle(SettleMethod::Window, low, high, n, expo);
+    }
+    let d = p.challenge_delay_s;
+    if p.min_samples <= n {
+        let t = numbers::time::later(expiry, s.window_changed);
+        return settle_from(t, d, now, SettleMethod::Window, low, high, n, expo);
+    }
+    let m = s.next_len;
+    if p.k_next_print <= m {
+        let prices = s.next_prices;
+        return chain_from(expiry, d, now, SettleMethod::NextPrint, prices, m, expo);
+    }
+    partial(p, s, n, hard, now)
+}
+
+// The decision at the time now: 12 for the terms, 11 for the state, and then the cascade's.
+pub fn decide(
+    state: SettlementParts,
+    params: OracleParams,
+    expiry: UnixTimestamp,
+    now: i64,
+) -> DecisionResult
+    ensures { λ r. ⌜ decisionOf r ≡ decideCall (termsOf params) (expiry .0) (storedOf state) now ⌝ }
+{
+    if !params.in_range() {
+        return DecisionResult::Err(CoreError::InvalidOracleParams);
+    }
+    if !state.fits(params.slots(), params.k_next_print) {
+        return DecisionResult::Err(CoreError::InvariantViolated);
+    }
+    cascade(params, state, expiry.get(), now)
+}

@@ -1,0 +1,4 @@
+pub mod Bits
+pub mod Links
+pub mod Placing
+pub mod Slots

@@ -1,0 +1,75 @@
+use native.Mathlib.Omega.{arith}
+use mathlib.Core.List.{_++_}
+use Rattle.rules.specs.Answers.{number}
+use Rattle.rules.specs.Lines.{ascii, decimal, line}
+use Rattle.core_decide.specs.Decisions.{methodOf}
+use Rattle.lines.proofs.Lines.{puts, puts-then, written}
+use borrow.Author.Needs.{needs}
+use Rattle.lines.proofs.line.put_settle.Statement.{statement}
+use Rattle.lines.proofs.line.put_settle.Tie as tie
+
+slice-aggregate-put : tie.Need-slice-aggregate-put
+slice-aggregate-put c = search needs
+
+put-requires : tie.Need-put-requires
+put-requires c κs = search needs
+
+put-field-requires : tie.Need-put-field-requires
+put-field-requires c κs = search needs
+
+number-requires : tie.Need-number-requires
+number-requires c κs = search needs
+
+cast-put-field : tie.Need-cast-put-field
+cast-put-field c = search needs
+
+put-field-requires-2 : tie.Need-put-field-requires-2
+put-field-requires-2 c κs = search needs
+
+put-field-requires-3 : tie.Need-put-field-requires-3
+put-field-requires-3 c κs = search needs
+
+put-field-requires-4 : tie.Need-put-field-requires-4
+put-field-requires-4 c κs = search needs
+
+end-line-requires : tie.Need-end-line-requires
+end-line-requires c κs = search needs
+
+same-length : tie.Need-same-length
+same-length c = search needs
+
+returns : tie.Need-returns
+unfolding line
+returns c =
+    let e = c .before .before in
+    let c5 = e .before .before .before .before in
+    let c4 = c5 .before .before .before .before in
+    let c3 = c4 .before .before .before .before in
+    let c2 = c3 .before .before .before .before .before in
+    let c1 = c2 .before .before .before .before in
+    let a = c1 .before .before .before .before .args in (
+      written
+          (puts-then {l = a .out .now} {i = a .at} (ascii "settle") (c1 .put .ensures)
+          (puts-then (ascii " " ++ decimal (a .series)) (c2 .put-field .ensures .0)
+          (puts-then (ascii " " ++ decimal (number (methodOf (a .method)))) (rw (c3 .before .number .ensures) at (c3 .put-field2 .ensures .0))
+          (puts-then (ascii " " ++ decimal (a .price)) (c4 .put-field3 .ensures .0)
+          (puts-then (ascii " " ++ decimal (a .samples)) (c5 .put-field4 .ensures .0)
+          (puts (ascii "\n") (e .end-line .ensures))))))),
+      omega (arith, c1 .put .ensures .0, c2 .put-field .ensures .1, c3 .put-field2 .ensures .1, c4 .put-field3 .ensures .1, c5 .put-field4 .ensures .1, e .end-line .ensures .0),
+    )
+
+pub put-settle-spec : {M : Type 1} → statement M
+put-settle-spec =
+    tie.close
+    (tie.spec
+    slice-aggregate-put
+    put-requires
+    put-field-requires
+    number-requires
+    cast-put-field
+    put-field-requires-2
+    put-field-requires-3
+    put-field-requires-4
+    end-line-requires
+    same-length
+    returns)

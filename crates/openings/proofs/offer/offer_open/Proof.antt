@@ -1,0 +1,110 @@
+use mathlib.Core.Path.{sym, ap, _∙_}
+use native.Mathlib.Omega.{arith}
+use mir.Facts.{toZ-ofZ}
+use Rattle.rules.specs.Answers.{Result, Refused}
+use Rattle.rules.specs.State.{Parts}
+use Rattle.rules.specs.Series.{Offer, Series}
+use Rattle.rules.specs.Record.{openRecord}
+use Rattle.rules.specs.Book.{replaced, storedAnswer, written}
+use Rattle.core_terms.specs.Errors.{numberOf}
+use Rattle.core_prices.specs.Prints.{quoteOf}
+use Rattle.core_parts.specs.States.{storedOf}
+use Rattle.core_take.specs.Uses.{indexOf, usedOf}
+use Rattle.book.specs.Records.{openingOf}
+use Rattle.book.proofs.Records.{allowed-book}
+use Rattle.answers.proofs.Commands.{may-look, held-found}
+use Rattle.openings.proofs.Offers.{offer-refused, offer-used}
+use borrow.Author.Needs.{needs}
+use Rattle.openings.proofs.offer.offer_open.Statement.{statement}
+use Rattle.openings.proofs.offer.offer_open.Tie as tie
+
+mul-at : tie.Need-mul-at
+mul-at c = search needs
+
+add-end : tie.Need-add-end
+add-end c = search needs
+
+sub-read-contents : tie.Need-sub-read-contents
+sub-read-contents c = search needs
+
+part-read-contents-start : tie.Need-part-read-contents-start
+part-read-contents-start c = search needs
+
+part-read-contents-end : tie.Need-part-read-contents-end
+part-read-contents-end c =
+    let a = c .before .before .args in
+    omega (arith, allowed-book (a .book .now) (a .series) (may-look (a .book .now) (a .series) (c .before .before .pre)))
+
+read-contents-requires : tie.Need-read-contents-requires
+read-contents-requires c κs = search needs
+
+offer-requires : tie.Need-offer-requires
+offer-requires c κs = search needs
+
+enum-known-result : tie.Need-enum-known-result
+enum-known-result c = search needs
+
+store-open-requires : tie.Need-store-open-requires
+store-open-requires c κs = let a = c .before .before .before .before .before .before .before .before .before .before .before .before .args in may-look (a .book .now) (a .series) (c .before .before .before .before .before .before .before .before .before .before .before .before .pre)
+
+enum-known-result-2 : tie.Need-enum-known-result-2
+enum-known-result-2 c = search needs
+
+refusal-requires : tie.Need-refusal-requires
+refusal-requires c κs = search needs
+
+same-length : tie.Need-same-length
+same-length c = search needs
+
+returns : tie.Need-returns
+returns c =
+    let a = c .before .before .before .before .before .before .before .before .before .before .before .before .before .before .before .args in
+    let book = a .book .now in
+    let c0 = c .before .before .before .before .before .before .before .before .before .before .before .read-contents .result in
+    let o = openingOf c0 in
+    let q = quoteOf (a .quote) in
+    let f = c .before .before .before .before .before .before .before .before .before .before .before .before .before .before .before .fits .now in
+    let u = c .before .before .before .before .before .before .result .given .0 .0 in
+    let e = held-found book (a .series) (c .before .before .before .before .before .before .before .before .before .before .before .before .before .before .before .pre) (c .before .before .before .before .before .before .before .before .before .before .before .read-contents .ensures) in
+    let x = offer-used book (a .series) o (storedOf (c0 .state)) q (a .now) (indexOf (u .slot)) (indexOf (u .«next_print»)) (u .fallback)
+    (sym (c .before .before .before .before .before .before .before .before .offer .ensures .0) ∙ ap usedOf (c .before .before .before .before .before .before .result .given .1)) in (
+      x .0 ∙ ap (λ (y : Result Series). storedAnswer y (Offer q (a .now))) e,
+      c .before .before .store-open .ensures
+          ∙ ap (λ (p : Parts). replaced (a .series) (openRecord o p) book) (simp toZ-ofZ at (c .before .before .before .before .before .before .before .before .offer .ensures .1))
+          ∙ x .1 ∙ ap (λ (y : Result Series). written (a .series) book y (Offer q (a .now))) e,
+    )
+
+same-length-2 : tie.Need-same-length-2
+same-length-2 c = search needs
+
+returns-2 : tie.Need-returns-2
+returns-2 c =
+    let a = c .before .before .before .before .before .before .before .before .before .before .before .args in
+    let book = a .book .now in
+    let c0 = c .before .before .before .before .before .before .before .read-contents .result in
+    let q = quoteOf (a .quote) in
+    let e = held-found book (a .series) (c .before .before .before .before .before .before .before .before .before .before .before .pre) (c .before .before .before .before .before .before .before .read-contents .ensures) in
+    let x = offer-refused book (a .series) (openingOf c0) (storedOf (c0 .state)) q (a .now) (numberOf (c .before .before .result2 .given .0 .0)) (sym (c .before .before .before .before .offer .ensures .0) ∙ ap usedOf (c .before .before .result2 .given .1)) in (
+      ap Refused (c .refusal .ensures) ∙ x .0 ∙ ap (λ (y : Result Series). storedAnswer y (Offer q (a .now))) e,
+      x .1 ∙ ap (λ (y : Result Series). written (a .series) book y (Offer q (a .now))) e,
+    )
+
+pub offer-open-spec : {M : Type 1} → statement M
+offer-open-spec =
+    tie.close
+    (tie.spec
+    mul-at
+    add-end
+    sub-read-contents
+    part-read-contents-start
+    part-read-contents-end
+    read-contents-requires
+    offer-requires
+    enum-known-result
+    store-open-requires
+    enum-known-result-2
+    refusal-requires
+    same-length
+    returns
+    same-length-2
+    returns-2)
