@@ -1,7 +1,7 @@
 -- Answers, read as the rules' answers.
 use Rattle.rules.specs.Answers as R
 use Rattle.core_decide.specs.Decisions.{methodOf}
-use Rattle.core_take.specs.Uses.{indexOf}
+use Rattle.core_uses.specs.Uses.{indexOf}
 use Rattle.answers.specs.declared.answer.Answer.{Answer}
 use Rattle.answers.specs.declared.answer.Answer.the-variants as A
 

@@ -1,4 +1,4 @@
--- One bit of a number, and a bit that is put where there is none.
+-- A bit that is put where there is none.
 use Prim.Native.Nat.{ℕ, zero, suc, _+_, _*_, _-_, _/_, _%_, _≤_, _<_, _^_}
 use mathlib.Core.Path.{_≡_, refl, sym, ap, _∙_, subst}
 use mathlib.Core.Bool.{false, not}
@@ -8,14 +8,6 @@ use lib.Pow.{pow-pos, pow-add, pow-lt, shr-lt}
 use lib.Dec.{eqb}
 use borrow.Author.Tests.{eqb-false}
 use Rattle.rules.specs.Taking.{bit}
-
-pub clear-is : (n : ℕ) → eqb (n % 2) 0 ≡ not (eqb (n % 2) 1)
-clear-is n = go (n % 2) (omega arith)
-  where
-    go : (b : ℕ) → b < 2 → eqb b 0 ≡ not (eqb b 1)
-    go zero h = refl
-    go (suc zero) h = refl
-    go (suc (suc b)) h = absurd (omega arith)
 
 -- 2 ^ i, as the shift has it
 pub mask-is : (i : ℕ) → i < 32 → 1 * 2 ^ i % 2 ^ 32 ≡ 2 ^ i

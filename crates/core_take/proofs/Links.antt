@@ -1,8 +1,8 @@
 -- The link that a print is, by how many there are.
 use Prim.Native.Nat.{ℕ, suc, _≤_, _<_}
-use mathlib.Core.Path.{_≡_, refl}
+use mathlib.Core.Path.{_≡_, refl, _∙_}
 use mathlib.Core.Bool.{Bool, true, false, _&&_}
-use mathlib.Core.Option.{none, some}
+use mathlib.Core.Option.{Option, none, some}
 use native.Mathlib.Omega.{arith}
 use borrow.Author.Tests.{ltb-true, leb-true, lt-ltb, le-ltb}
 use lib.Dec.{ltb}
@@ -17,18 +17,8 @@ use Rattle.rules.specs.State.{Parts, candidatesOf}
 use Rattle.rules.proofs.Bools.{both, every-at}
 use Rattle.rules.proofs.Integers.{same, le-yes, le-refl}
 use Rattle.rules.proofs.Logs.{size-front}
+use Rattle.core_uses.specs.Uses.{firstLink, laterLink}
 use Rattle.core_take.specs.Placing.{linkUse, linkable}
-
-pub eq-eqZ : (a b : ℤ) → a ≡ b → eqZ a b ≡ true
-eq-eqZ a b e = rw (e, le-refl b)
-
-pub ne-eqZ : (a b : ℤ) → (a ≡ b → ⊥) → eqZ a b ≡ false
-ne-eqZ a b ne = go (leZ a b) (leZ b a) refl refl
-  where
-    go : (x y : Bool) → leZ a b ≡ x → leZ b a ≡ y → x && y ≡ false
-    go true true e f = absurd (ne (same a b (omega (arith, le-yes a b e, le-yes b a f))))
-    go true false e f = refl
-    go false y e f = refl
 
 pub few-links : (t : Terms) → goodTerms t ≡ true → t .k ≤ 5
 unfolding goodTerms
@@ -39,14 +29,14 @@ module _ (t : Terms) (E : ℤ) (s : Parts) (p : Print) where
   unfolding linkUse links candidatesOf
   no-room h = rw (size-front (pos 0) (s .links) (s .times), le-ltb (s .links) (t .k) h)
 
-  pub first-link : s .links ≡ 0 → s .links < t .k → linkUse t E (candidatesOf s) p ≡ (if leZ (p .prev) E && ltZ E (p .published) then some 0 else none)
-  unfolding linkUse links candidatesOf front
-  first-link e h = rw (e, lt-ltb 0 (t .k) (omega arith))
+  pub first-link : s .links ≡ 0 → s .links < t .k → (r : Option ℕ) → r ≡ firstLink E (p .published) (p .prev) → r ≡ linkUse t E (candidatesOf s) p
+  unfolding linkUse firstLink links candidatesOf front
+  first-link e h r q = q ∙ rw (e, lt-ltb 0 (t .k) (omega arith))
 
   pub later-link : (n : ℕ) → s .links ≡ suc n → s .links < t .k
-      → linkUse t E (candidatesOf s) p ≡ (if eqZ (p .prev) (getD (s .times) n (pos 0)) && ltZ (getD (s .times) n (pos 0)) (p .published) then some (s .links) else none)
-  unfolding linkUse links candidatesOf front
-  later-link n e h = rw (e, size-front (pos 0) n (s .times), lt-ltb (suc n) (t .k) (omega arith))
+      → (r : Option ℕ) → r ≡ laterLink (s .links) (getD (s .times) n (pos 0)) (p .published) (p .prev) → r ≡ linkUse t E (candidatesOf s) p
+  unfolding linkUse laterLink links candidatesOf front
+  later-link n e h r q = q ∙ rw (e, size-front (pos 0) n (s .times), lt-ltb (suc n) (t .k) (omega arith))
 
   -- the places that links are put in
   pub room : goodTerms t ≡ true → isLink t E (candidatesOf s) p ≡ true → s .links < 5

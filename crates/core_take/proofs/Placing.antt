@@ -120,6 +120,11 @@ module _ (t : Terms) (E : ℤ) (c : Candidates) (p : Print) where
 pub unchanged : {A : Type 0} (a : Answer) (n : ℕ) (x y : A) → a ≡ Refused n → (Refused n ≡ a) × (y ≡ (if isUsed a then x else y))
 unchanged a n x y e = (sym e, rw e)
 
+-- the uses made one after the other
+pub steps-are : (u v : Option ℕ) (f : Bool) (n : ℕ) (p : Print) (now : ℤ) (s x y z : Parts) → x ≡ withSlot u n now s → y ≡ withLink v p now x → z ≡ withFallback f p now y
+    → z ≡ withFallback f p now (withLink v p now (withSlot u n now s))
+steps-are u v f n p now s x y z ex ey ez = ez ∙ ap (withFallback f p now) (ey ∙ ap (withLink v p now) ex)
+
 -- ---- the links' five places
 
 module _ {A : Type 0} (d : A) where
@@ -256,16 +261,15 @@ module _ (t : Terms) (E : ℤ) (s : Parts) (p : Print) (now : ℤ) (g : goodTerm
       rw (size-front (pos 0) (s .links) (s .times))
       (steps (slotFor t E c p) (isLink t E c p) (isFallback t E c p) (room t E s p g))
 
-  -- a taken print: x, y and z are the parts after each use, u, v, f the uses and n the sum
-  pub stored : (u v : Option ℕ) (f : Bool) (n : ℕ) (x y z : Parts)
+  -- a taken print: u, v, f are the uses, n the sum, and z the parts after them
+  pub stored : (u v : Option ℕ) (f : Bool) (n : ℕ) (z : Parts)
       → u ≡ slotFor t E c p → v ≡ linkUse t E c p → f ≡ isFallback t E c p → n ≡ maybe (s .sum) (λ i. s .sum + p .price) (slotFor t E c p)
       → printAnswer t E c p ≡ Used (slotFor t E c p) (linkUse t E c p) (isFallback t E c p)
-      → x ≡ withSlot u n now s → y ≡ withLink v p now x → z ≡ withFallback f p now y
+      → z ≡ stepwise u v f n
       → (Used u v f ≡ printAnswer t E c p) × (z ≡ (if isUsed (printAnswer t E c p) then partsOf (place t E c p now) else s))
-  stored u v f n x y z eu ev ef en answer ex ey ez = (
+  stored u v f n z eu ev ef en answer ez = (
     (λ i. Used (eu i) (ev i) (ef i)) ∙ sym answer,
-    ez ∙ ap (withFallback f p now) (ey ∙ ap (withLink v p now) ex)
-        ∙ (λ i. stepwise (eu i) (ev i) (ef i) (en i))
+    ez ∙ (λ i. stepwise (eu i) (ev i) (ef i) (en i))
         ∙ placed
         ∙ sym (ap (λ (a : Answer). if isUsed a then partsOf (place t E c p now) else s) answer),
   )

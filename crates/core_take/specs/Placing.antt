@@ -1,10 +1,10 @@
 -- The uses of a print one by one, and the parts after each.
-use Prim.Native.Nat.{ℕ, _+_, _/_, _%_, _^_}
+use Prim.Native.Nat.{ℕ, _+_, _^_}
 use mathlib.Core.Bool.{Bool, true, false, not, _&&_, _||_}
 use mathlib.Core.Option.{Option, none, some}
 use lib.ListN.{set}
 use lib.IntN.{ℤ, pos, _-ℤ_}
-use lib.Dec.{ltb, leb}
+use lib.Dec.{ltb}
 use Rattle.rules.specs.Log.{if_then_else_, isSome, maybe, size}
 use Rattle.rules.specs.Bytes.{fits}
 use Rattle.rules.specs.Answers.{Result, ok, refused}
@@ -15,22 +15,6 @@ use Rattle.rules.specs.State.{Parts}
 use Rattle.numbers.specs.Wides.{wideOf}
 use Rattle.numbers.specs.declared.wide.Sum.{Sum}
 use Rattle.numbers.specs.declared.wide.Sum.the-variants as W
-use Rattle.core_terms.specs.Errors.{numberOf}
-use Rattle.core_take.specs.Uses.{indexOf}
-use Rattle.core_take.specs.declared.take.SlotResult.{SlotResult}
-use Rattle.core_take.specs.declared.take.SlotResult.the-variants as S
-use Rattle.core_take.specs.declared.take.FallbackResult.{FallbackResult}
-use Rattle.core_take.specs.declared.take.FallbackResult.the-variants as F
-
--- ---- the answers of the helpers
-
-abbrev pub slotResultOf : SlotResult → Result (Option ℕ)
-slotResultOf (S.Ok i) = ok (indexOf i)
-slotResultOf (S.Err e) = refused (numberOf e)
-
-abbrev pub fallbackResultOf : FallbackResult → Result Bool
-fallbackResultOf (F.Ok b) = ok b
-fallbackResultOf (F.Err e) = refused (numberOf e)
 
 -- a sum, where it fits
 abbrev pub totalOf : Sum → Option ℕ
@@ -50,11 +34,6 @@ linkUse t E c p = if isLink t E c p then some (size (c .times)) else none
 -- whether a print is the new fallback, where the lookback's start fits
 unfoldable pub fallbackUse : Terms → ℤ → Candidates → Print → Result Bool
 fallbackUse t E c p = if fits (E -ℤ pos (t .lookback)) then ok (isFallback t E c p) else refused 0
-
--- the slot by a division, for a print of the window that lies offset after its start and back after the print before it
-unfoldable pub slotAt : ℕ → ℕ → ℕ → ℕ → ℕ → Option ℕ
-slotAt slot tolerance bits offset back =
-    if leb (offset % slot) tolerance && ltb (offset % slot) back && not (bit (offset / slot) bits) then some (offset / slot) else none
 
 -- the sum of the slots' prices after a print, where it fits 128 bits
 unfoldable pub totalAfter : ℕ → Option ℕ → ℕ → Option ℕ

@@ -1,17 +1,10 @@
 -- What a print is used for, read as the rules' answer.
-use Prim.Native.Nat.{ℕ}
-use mathlib.Core.Option.{Option, none, some}
 use Rattle.rules.specs.Answers as R
 use Rattle.rules.specs.Prints.{Print}
 use Rattle.core_terms.specs.Errors.{numberOf}
-use Rattle.core_take.specs.declared.take.Index.{Index}
-use Rattle.core_take.specs.declared.take.Index.the-variants as I
+use Rattle.core_uses.specs.Uses.{indexOf}
 use Rattle.core_take.specs.declared.take.PrintUseResult.{PrintUseResult}
 use Rattle.core_take.specs.declared.take.PrintUseResult.the-variants as P
-
-abbrev pub indexOf : Index → Option ℕ
-indexOf (I.At i) = some i
-indexOf I.None = none
 
 abbrev pub usedOf : PrintUseResult → R.Answer
 usedOf (P.Ok u) = R.Used (indexOf (u .slot)) (indexOf (u .«next_print»)) (u .fallback)

@@ -1,18 +1,18 @@
 // Taking a print: the slot, the link and the fallback that it is used for.
 ghost use mathlib.Core.Path.{_≡_};
-ghost use mathlib.Core.Bool.{true, not, _||_};
-ghost use Prim.Native.Nat.{_/_, _<_};
-ghost use Rattle.rules.specs.Log.{if_then_else_, isSome};
+ghost use mathlib.Core.Bool.{true};
+ghost use Rattle.rules.specs.Log.{if_then_else_};
 ghost use Rattle.rules.specs.Answers.{isUsed};
 ghost use Rattle.rules.specs.Terms.{goodTerms};
-ghost use Rattle.rules.specs.Taking.{bit, printAnswer, place};
+ghost use Rattle.rules.specs.Taking.{printAnswer, place};
 ghost use Rattle.rules.specs.State.{candidatesOf, partsOf, goodState, addPrintCall, addPrintState, offerCall, offerState};
 ghost use Rattle.numbers.specs.Wides.{wideOf};
 ghost use Rattle.core_terms.specs.Params.{termsOf};
 ghost use Rattle.core_prices.specs.Prints.{printOf, printResultOf, quoteOf};
 ghost use Rattle.core_parts.specs.States.{storedOf};
-ghost use Rattle.core_take.specs.Uses.{indexOf, usedOf, refusedOf};
-ghost use Rattle.core_take.specs.Placing.{slotResultOf, slotUse, slotAt, linkUse, fallbackResultOf, fallbackUse, totalOf, totalAfter, fillable, withSlot, linkable, withLink, withFallback};
+ghost use Rattle.core_uses.specs.Uses.{indexOf, slotResultOf, fallbackResultOf};
+ghost use Rattle.core_take.specs.Uses.{usedOf, refusedOf};
+ghost use Rattle.core_take.specs.Placing.{slotUse, linkUse, fallbackUse, totalOf, totalAfter, fillable, withSlot, linkable, withLink, withFallback};
 use core_parts::state::SettlementParts;
 use core_prices::print::Print;
 use core_prices::print::PrintResult;
@@ -21,16 +21,16 @@ use core_prices::print::accept_print;
 use core_terms::error::CoreError;
 use core_terms::params::OracleParams;
 use core_terms::units::UnixTimestamp;
-use numbers::time::Gap;
-use numbers::time::Time;
+use core_uses::uses::FallbackResult;
+pub use core_uses::uses::Index;
+use core_uses::uses::SlotResult;
+use core_uses::uses::fallback_in;
+use core_uses::uses::first_link;
+use core_uses::uses::is_used;
+use core_uses::uses::later_link;
+use core_uses::uses::slot_in;
 use numbers::wide::Sum;
 use numbers::wide::Wide;
-
-// A place, or none.
-pub enum Index {
-    At(u8),
-    None,
-}
 
 // What a print was used for.
 pub struct PrintUse {
@@ -50,71 +50,20 @@ pub struct Added {
     pub state: SettlementParts,
 }
 
-enum SlotResult {
-    Ok(Index),
-    Err(CoreError),
-}
-
-enum FallbackResult {
-    Ok(bool),
-    Err(CoreError),
-}
-
-// Whether slot i is empty.
-fn is_empty(bits: u32, i: u32) -> bool
-    requires { ⌜ i < 32 ⌝ }
-    ensures { λ r. ⌜ r ≡ not (bit i bits) ⌝ }
-{
-    (bits >> i) % 2 == 0
-}
-
-// The slot that a print fills which lies offset after the window's start and back after the print
-// before it. The boundary lies late behind the print: so prev < boundary is late < back.
-fn slot_at(slot: u32, tolerance: u16, bits: u32, offset: u32, back: u64) -> Index
-    requires { ⌜ (0 < slot) × (offset / slot < 32) ⌝ }
-    ensures { λ r. ⌜ indexOf r ≡ slotAt slot tolerance bits offset back ⌝ }
-{
-    let index = offset / slot;
-    let late = offset % slot;
-    if (tolerance as u32) < late {
-        return Index::None;
-    }
-    if back <= (late as u64) {
-        return Index::None;
-    }
-    if !is_empty(bits, index) {
-        return Index::None;
-    }
-    Index::At(index as u8)
-}
-
-// Canonical slot of the print, if it is one and the slot is empty. The slots fill the window, so
-// index < slots is offset < window, which needs no division.
+// Canonical slot of the print, if it is one and the slot is empty.
 fn try_slot(p: OracleParams, s: SettlementParts, expiry: i64, x: Print) -> SlotResult
     requires { ⌜ goodTerms (termsOf p) ≡ true ⌝ }
     ensures { λ r. ⌜ slotResultOf r ≡ slotUse (termsOf p) expiry (candidatesOf (storedOf s)) (printOf x) ⌝ }
 {
-    let window = p.window_s;
-    let publish = x.publish_time;
-    let Time::At(start) = numbers::time::before(expiry, window) else {
-        return SlotResult::Err(CoreError::Overflow);
-    };
-    let Gap::Of(offset) = numbers::time::span(start, publish) else {
-        return SlotResult::Ok(Index::None);
-    };
-    if (window as u64) <= offset {
-        return SlotResult::Ok(Index::None);
-    }
-    let Gap::Of(back) = numbers::time::span(x.prev_publish_time, publish) else {
-        return SlotResult::Ok(Index::None);
-    };
-    SlotResult::Ok(slot_at(
+    slot_in(
+        expiry,
+        p.window_s,
         p.slot_s,
         p.slot_tolerance_s,
         s.filled_slots,
-        offset as u32,
-        back,
-    ))
+        x.publish_time,
+        x.prev_publish_time,
+    )
 }
 
 // Next link of the canonical chain, if the print is it.
@@ -126,61 +75,25 @@ fn try_next_print(p: OracleParams, s: SettlementParts, expiry: i64, x: Print) ->
     if p.k_next_print <= len {
         return Index::None;
     }
-    let publish = x.publish_time;
-    let prev = x.prev_publish_time;
-    // The first link is the one that strictly advances past the expiry.
     if len == 0 {
-        if expiry < prev {
-            return Index::None;
-        }
-        if publish <= expiry {
-            return Index::None;
-        }
-        return Index::At(0);
+        return first_link(expiry, x.publish_time, x.prev_publish_time);
     }
-    // A later one is chained on the last, and strictly advances.
     let end = (len - 1) as usize;
     let last = s.next_times[end];
-    if prev != last {
-        return Index::None;
-    }
-    if publish <= last {
-        return Index::None;
-    }
-    Index::At(len)
+    later_link(len, last, x.publish_time, x.prev_publish_time)
 }
 
-// Whether the print replaces the fallback: a later first-of-its-second print of the lookback.
+// Whether the print replaces the fallback.
 fn try_fallback(p: OracleParams, s: SettlementParts, expiry: i64, x: Print) -> FallbackResult
     ensures { λ r. ⌜ fallbackResultOf r ≡ fallbackUse (termsOf p) expiry (candidatesOf (storedOf s)) (printOf x) ⌝ }
 {
-    let Time::At(earliest) = numbers::time::before(expiry, p.fallback_lookback_s) else {
-        return FallbackResult::Err(CoreError::Overflow);
-    };
-    let publish = x.publish_time;
-    if publish < earliest {
-        return FallbackResult::Ok(false);
-    }
-    if expiry < publish {
-        return FallbackResult::Ok(false);
-    }
-    if publish <= x.prev_publish_time {
-        return FallbackResult::Ok(false);
-    }
-    FallbackResult::Ok(s.fallback_time < publish)
-}
-
-// Whether the print has a use at all.
-fn is_used(slot: Index, next_print: Index, fallback: bool) -> bool
-    ensures { λ r. ⌜ r ≡ isSome (indexOf slot) || isSome (indexOf «next_print») || fallback ⌝ }
-{
-    match slot {
-        Index::At(_) => true,
-        Index::None => match next_print {
-            Index::At(_) => true,
-            Index::None => fallback,
-        },
-    }
+    fallback_in(
+        expiry,
+        p.fallback_lookback_s,
+        s.fallback_time,
+        x.publish_time,
+        x.prev_publish_time,
+    )
 }
 
 // The sum of the slots' prices, with the price of the slot that is filled.
@@ -246,6 +159,25 @@ fn with_fallback(s: SettlementParts, fallback: bool, x: Print, now: i64) -> Sett
     next
 }
 
+// The state with each use of the print made.
+fn placed(
+    s: SettlementParts,
+    slot: Index,
+    next_print: Index,
+    fallback: bool,
+    sum: Wide,
+    x: Print,
+    now: i64,
+) -> SettlementParts
+    requires { ⌜ fillable (s .«filled_slots») (indexOf slot) ≡ true ⌝ }
+    requires { ⌜ linkable (indexOf «next_print») ≡ true ⌝ }
+    ensures { λ r. ⌜ storedOf r ≡ withFallback fallback (printOf x) now (withLink (indexOf «next_print») (printOf x) now (withSlot (indexOf slot) (wideOf sum) now (storedOf s))) ⌝ }
+{
+    let slotted = with_slot(s, slot, sum, now);
+    let linked = with_next_print(slotted, next_print, x, now);
+    with_fallback(linked, fallback, x, now)
+}
+
 // Stores the print as every candidate that it qualifies for; a refused one changes nothing.
 fn add(p: OracleParams, s: SettlementParts, expiry: i64, x: Print, now: i64) -> Added
     requires { ⌜ (goodTerms (termsOf p) ≡ true) × (goodState (termsOf p) (storedOf s) ≡ true) ⌝ }
@@ -276,15 +208,13 @@ fn add(p: OracleParams, s: SettlementParts, expiry: i64, x: Print, now: i64) -> 
             state: s,
         };
     }
-    let slotted = with_slot(s, slot, sum, now);
-    let linked = with_next_print(slotted, next_print, x, now);
     Added {
         result: PrintUseResult::Ok(PrintUse {
             slot: slot,
             next_print: next_print,
             fallback: fallback,
         }),
-        state: with_fallback(linked, fallback, x, now),
+        state: placed(s, slot, next_print, fallback, sum, x, now),
     }
 }
 

@@ -7,7 +7,7 @@ ghost use Rattle.rules.specs.Prints.{accept};
 ghost use Rattle.core_prices.specs.Prints.{printResultOf, quoteAt};
 ghost use Rattle.rules.specs.Log.{if_then_else_};
 ghost use Rattle.rules.specs.Book.{answerTo, bookAfter};
-ghost use Rattle.core_take.specs.Uses.{indexOf};
+ghost use Rattle.core_uses.specs.Uses.{indexOf};
 ghost use Rattle.entries.specs.Codes.{codeOf, storedPrice, storedAmount, placeCode, answerCode, firstAfter, secondAfter, thirdAfter};
 use answers::answer::Answer;
 use core_prices::mean::PriceResult;

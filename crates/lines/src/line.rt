@@ -10,7 +10,7 @@ ghost use Rattle.rules.specs.Answers.{Used, Wait, Settle};
 ghost use Rattle.rules.specs.Lines.{ascii, decimal, signedDecimal, index, afterWord, line};
 ghost use Rattle.answers.specs.Answers.{answerOf};
 ghost use Rattle.core_decide.specs.Decisions.{methodOf};
-ghost use Rattle.core_take.specs.Uses.{indexOf};
+ghost use Rattle.core_uses.specs.Uses.{indexOf};
 ghost use Rattle.lines.specs.Lines.{lineMax};
 use crate::decimal::put_decimal;
 use crate::decimal::put_signed;

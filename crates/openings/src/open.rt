@@ -28,10 +28,10 @@ fn used(book: &[u8], series: u8) -> u8
     if !params.in_range() {
         return 11;
     }
-    if !state.in_range(params) {
-        return 11;
+    if state.in_range(params) {
+        return 36;
     }
-    36
+    11
 }
 
 // Opens a series: 35, 34, 11, then 36, 12.

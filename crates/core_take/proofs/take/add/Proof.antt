@@ -15,8 +15,8 @@ use Rattle.numbers.specs.Wides.{wideOf}
 use Rattle.core_terms.specs.Params.{termsOf}
 use Rattle.core_prices.specs.Prints.{printOf}
 use Rattle.core_parts.specs.States.{storedOf}
-use Rattle.core_take.specs.Uses.{indexOf}
-use Rattle.core_take.specs.Placing.{slotResultOf, fallbackResultOf, totalOf, linkUse}
+use Rattle.core_uses.specs.Uses.{indexOf, slotResultOf, fallbackResultOf}
+use Rattle.core_take.specs.Placing.{totalOf, linkUse}
 use Rattle.core_take.proofs.Slots.{fills}
 use Rattle.core_take.proofs.Links.{links-fit}
 use Rattle.core_take.proofs.Placing.{slot-told, slot-refused, fallback-told, fallback-refused, sum-told, sum-over, no-window, no-lookback, no-sum, no-use, in-use, use-is, unchanged, stored}
@@ -179,36 +179,31 @@ returns-4 c =
     unchanged (printAnswer (terms s) (expiry s) (cands s) (print s)) 14 (partsOf (place (terms s) (expiry s) (cands s) (print s) (s .args .now))) (parts s)
     (no-use (terms s) (expiry s) (cands s) (print s) (slot-is (slot-place b) .0) (fallback-is b .0) (sum-is m .0) e)
 
-with-slot-requires : tie.Need-with-slot-requires
+placed-requires : tie.Need-placed-requires
 unfolding storedOf candidatesOf
-with-slot-requires c κs =
-    let k = slot-place (fallback-place (sum-place (link-place (c .before)))) in
+placed-requires c κs =
+    let l = link-place (c .before) in
+    let k = slot-place (fallback-place (sum-place l)) in
     let s = start k in
-    rw (slot-is k .1) (fills (terms s) (expiry s) (cands s) (print s) (s .pre .0))
-
-with-next-print-requires : tie.Need-with-next-print-requires
-with-next-print-requires c κs =
-    let l = link-place (c .before .before) in
-    let s = start (slot-place (fallback-place (sum-place l))) in
-    rw (link-is l) (links-fit (terms s) (expiry s) (parts s) (print s) (s .pre .0))
-
-with-fallback-requires : tie.Need-with-fallback-requires
-with-fallback-requires c κs = search needs
+    let g = s .pre .0 in (
+      rw (slot-is k .1) (fills (terms s) (expiry s) (cands s) (print s) g),
+      rw (link-is l) (links-fit (terms s) (expiry s) (parts s) (print s) g),
+    )
 
 returns-5 : tie.Need-returns-5
 returns-5 c =
-    let u = c .before .before .before .before in
+    let u = c .before .before in
     let l = link-place u in
     let m = sum-place l in
     let b = fallback-place m in
     let k = slot-place b in
     let s = start k in
     let f-now = s .fits .now in
-    let e = sym (used-is u) ∙ not-false (u .is-used .result) (c .before .before .before .if1 .left) in
-    stored (terms s) (expiry s) (parts s) (print s) (s .args .now) (s .pre .0) (s .pre .1) (times-length s) (prices-length s) _ _ _ _ _ _ _
+    let e = sym (used-is u) ∙ not-false (u .is-used .result) (c .before .if1 .left) in
+    stored (terms s) (expiry s) (parts s) (print s) (s .args .now) (s .pre .0) (s .pre .1) (times-length s) (prices-length s) _ _ _ _ _
     (slot-is k .1) (link-is l) (fallback-is b .1) (sum-is m .1)
     (in-use (terms s) (expiry s) (cands s) (print s) (slot-is k .0) (fallback-is b .0) (sum-is m .0) e)
-    (simp toZ-ofZ at (c .before .before .with-slot .ensures)) (simp toZ-ofZ at (c .before .with-next-print .ensures)) (simp toZ-ofZ at (c .with-fallback .ensures))
+    (simp toZ-ofZ at (c .placed .ensures))
 
 pub add-spec : {M : Type 1} → statement M
 add-spec =
@@ -229,7 +224,5 @@ add-spec =
     try-next-print-requires
     is-used-requires
     returns-4
-    with-slot-requires
-    with-next-print-requires
-    with-fallback-requires
+    placed-requires
     returns-5)

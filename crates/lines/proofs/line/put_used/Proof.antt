@@ -1,7 +1,7 @@
 use native.Mathlib.Omega.{arith}
 use mathlib.Core.List.{_++_}
 use Rattle.rules.specs.Lines.{ascii, decimal, index, flag, line}
-use Rattle.core_take.specs.Uses.{indexOf}
+use Rattle.core_uses.specs.Uses.{indexOf}
 use Rattle.lines.proofs.Decimals.{flag-decimal}
 use Rattle.lines.proofs.Lines.{puts, puts-then, written}
 use borrow.Author.Needs.{needs}

@@ -9,7 +9,8 @@ use Rattle.rules.specs.Book.{replaced, storedAnswer, written}
 use Rattle.core_terms.specs.Errors.{numberOf}
 use Rattle.core_prices.specs.Prints.{quoteOf}
 use Rattle.core_parts.specs.States.{storedOf}
-use Rattle.core_take.specs.Uses.{indexOf, usedOf}
+use Rattle.core_uses.specs.Uses.{indexOf}
+use Rattle.core_take.specs.Uses.{usedOf}
 use Rattle.book.specs.Records.{openingOf}
 use Rattle.book.proofs.Records.{allowed-book}
 use Rattle.answers.proofs.Commands.{may-look, held-found}

@@ -1,9 +1,9 @@
-use Rattle.rules.specs.Taking.{bit}
-use Rattle.core_take.proofs.Bits.{clear-is}
 use Prim.Native.Nat.{_/_, _^_}
+use Rattle.rules.specs.Taking.{bit}
+use Rattle.core_uses.proofs.Bits.{clear-is}
 use borrow.Author.Needs.{needs}
-use Rattle.core_take.proofs.take.is_empty.Statement.{statement}
-use Rattle.core_take.proofs.take.is_empty.Tie as tie
+use Rattle.core_uses.proofs.uses.is_empty.Statement.{statement}
+use Rattle.core_uses.proofs.uses.is_empty.Tie as tie
 
 shr-result : tie.Need-shr-result
 shr-result c = search needs

@@ -1,0 +1,3 @@
+// The uses of a print by its times: slot, link, fallback. Arithmetic on numbers, at all of them; any
+// crate may call it.
+pub mod uses;
