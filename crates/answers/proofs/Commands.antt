@@ -16,10 +16,13 @@ use Rattle.rules.proofs.State.{parts-kept}
 use Rattle.core_decide.specs.declared.decide.Decision.{Decision}
 use Rattle.core_decide.specs.declared.decide.Decision.the-variants as N
 use Rattle.core_decide.specs.Decisions as D
-use Rattle.book.specs.declared.record.Status.{Status}
+use Rattle.record_test.specs.declared.status.Status.{Status}
 use Rattle.book.specs.Looks.{Allowed}
-use Rattle.book.specs.Records.{statusAs, statusIn, storedAt, Held, contentsFrom, decisionIn}
-use Rattle.book.proofs.Records.{partAt, part-is, status-found, isRefused, not-refused, allowed-part, decision-of, contents-looked}
+use Rattle.record_read.specs.Records.{Held, contentsFrom}
+use Rattle.record_test.specs.Statuses.{statusAs, statusIn, storedAt, decisionIn}
+use Rattle.book.proofs.Looks.{partAt, part-is, allowed-part}
+use Rattle.record_read.proofs.Records.{contents-looked}
+use Rattle.record_test.proofs.Statuses.{status-found, isRefused, not-refused, decision-of}
 use Rattle.answers.specs.Commands.{Untested, answerAt, afterAt, bookAnswer}
 
 -- a decision is no refusal

@@ -7,8 +7,8 @@ use Rattle.rules.specs.Bytes.{Bytes}
 use Rattle.rules.specs.Answers.{Answer, Opened, Used, Wait, Settle, Refused}
 use Rattle.rules.specs.Series.{Command}
 use Rattle.rules.specs.Book.{look, storedAnswer, written}
-use Rattle.book.specs.declared.record.Status.the-variants as S
-use Rattle.book.specs.Records.{statusIn, storedAt}
+use Rattle.record_test.specs.declared.status.Status.the-variants as S
+use Rattle.record_test.specs.Statuses.{statusIn, storedAt}
 
 abbrev pub answerAt : Bytes → ℕ → Command → Answer
 answerAt book s c = storedAnswer (storedAt book s) c

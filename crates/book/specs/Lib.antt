@@ -1,2 +1,1 @@
 pub mod Looks
-pub mod Records

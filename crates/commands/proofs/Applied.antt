@@ -10,7 +10,7 @@ use Rattle.rules.specs.Series.{Command, Ask, Series, empty, live, fixed, step}
 use Rattle.rules.specs.Record.{bookSize, seriesCount, stored}
 use Rattle.rules.specs.Entries.{noCommand, command, entry}
 use Rattle.rules.specs.Book.{recordAt, look, storedAnswer, answerTo, written, bookAfter}
-use Rattle.book.specs.Records.{storedAt}
+use Rattle.record_test.specs.Statuses.{storedAt}
 use Rattle.commands.proofs.Entries.{entry-below}
 use Rattle.answers.specs.Commands.{answerAt, afterAt}
 

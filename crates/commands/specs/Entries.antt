@@ -10,7 +10,7 @@ use Rattle.commands.specs.declared.command.Entry.{Entry}
 use Rattle.commands.specs.declared.command.Entry.the-variants as N
 use Rattle.commands.specs.declared.command.SeriesResult.{SeriesResult}
 use Rattle.commands.specs.declared.command.SeriesResult.the-variants as W
-use Rattle.book.specs.Records.{openingWith}
+use Rattle.record_read.specs.Records.{openingWith}
 
 abbrev pub entryOf : Entry → E.Entry
 entryOf (N.NoCommand n) = E.noCommand n

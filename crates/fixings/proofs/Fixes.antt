@@ -21,9 +21,10 @@ use Rattle.rules.proofs.Decision.{decide-each}
 use Rattle.core_decide.specs.declared.decide.Decision.{Decision}
 use Rattle.core_decide.specs.declared.decide.Decision.the-variants as N
 use Rattle.core_decide.specs.Decisions as D
-use Rattle.book.specs.declared.record.Status.the-variants as S
-use Rattle.book.specs.Records.{outcomeIn, statusIn}
-use Rattle.book.proofs.Records.{partAt, part-is}
+use Rattle.record_test.specs.declared.status.Status.the-variants as S
+use Rattle.record_read.specs.Records.{outcomeIn}
+use Rattle.record_test.specs.Statuses.{statusIn}
+use Rattle.book.proofs.Looks.{partAt, part-is}
 use Rattle.answers.specs.Commands.{Untested, answerAt, afterAt, inBook, bookAnswer}
 use Rattle.answers.proofs.Commands.{answered, testedAs, tested, open-found, open-kept}
 

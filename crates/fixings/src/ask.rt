@@ -3,16 +3,16 @@ ghost use mathlib.Core.Path.{_≡_};
 ghost use lib.IntN.{ℤ};
 ghost use Rattle.rules.specs.Series.{Ask};
 ghost use Rattle.rules.specs.Book.{look};
-ghost use Rattle.book.specs.declared.record.Status.the-variants as S;
-ghost use Rattle.book.specs.Records.{statusIn};
+ghost use Rattle.record_test.specs.declared.status.Status.the-variants as S;
+ghost use Rattle.record_test.specs.Statuses.{statusIn};
 ghost use Rattle.answers.specs.Answers.{answerOf};
 ghost use Rattle.answers.specs.Commands.{Untested, answerAt};
 use answers::answer::Answer;
 use book::look::RECORD_SIZE;
-use book::record::Status;
-use book::record::decide_in;
-use book::record::read_outcome;
-use book::record::status_at;
+use record_read::outcome::read_outcome;
+use record_test::decide::decide_in;
+use record_test::status::Status;
+use record_test::status::status_at;
 
 // An ask of an open series, whose terms and state the core tests: 11, 0.
 fn ask_open(book: &[u8], series: u8, now: i64) -> Answer

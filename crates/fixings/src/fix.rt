@@ -8,11 +8,11 @@ ghost use Rattle.answers.specs.Commands.{Untested, answerAt, afterAt};
 use crate::store::store_fixed;
 use answers::answer::Answer;
 use book::look::RECORD_SIZE;
-use book::record::Status;
-use book::record::decide_in;
-use book::record::status_at;
 use core_decide::decide::Decision;
 use core_decide::decide::DecisionResult;
+use record_test::decide::decide_in;
+use record_test::status::Status;
+use record_test::status::status_at;
 
 // Settle or Void.
 fn is_final(d: Decision) -> bool

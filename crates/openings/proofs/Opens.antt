@@ -9,7 +9,7 @@ use Rattle.rules.specs.State.{Parts, partsOf, goodState}
 use Rattle.rules.specs.Series.{Open, Opening, Series, empty, noCandidates, step}
 use Rattle.rules.specs.Record.{openRecord, bytesOf}
 use Rattle.rules.specs.Book.{replaced, storedAnswer, written}
-use Rattle.book.specs.Records.{storedAt}
+use Rattle.record_test.specs.Statuses.{storedAt}
 use Rattle.answers.specs.Commands.{answerAt, afterAt}
 use Rattle.answers.proofs.Commands.{testedAs, tested}
 

@@ -8,11 +8,11 @@ use crate::store::store_open;
 use answers::answer::Answer;
 use answers::answer::refusal;
 use book::look::RECORD_SIZE;
-use book::record::Status;
-use book::record::read_contents;
-use book::record::status_at;
 use core_prices::print::Quote;
 use core_take::take::PrintUseResult;
+use record_read::contents::read_contents;
+use record_test::status::Status;
+use record_test::status::status_at;
 
 // An offer to an open series, whose terms and state the core tests.
 fn offer_open(book: &mut [u8], series: u8, quote: Quote, now: i64) -> Answer

@@ -2,18 +2,18 @@
 ghost use mathlib.Core.Path.{_≡_};
 ghost use Rattle.rules.specs.Answers.{Refused};
 ghost use Rattle.rules.specs.Series.{Opening, Open};
-ghost use Rattle.book.specs.Records.{openingWith};
+ghost use Rattle.record_read.specs.Records.{openingWith};
 ghost use Rattle.answers.specs.Answers.{answerOf};
 ghost use Rattle.answers.specs.Commands.{Untested, answerAt, afterAt};
 use crate::store::store_open;
 use answers::answer::Answer;
 use book::look::RECORD_SIZE;
-use book::record::Status;
-use book::record::read_contents;
-use book::record::status_at;
 use core_parts::state::SettlementParts;
 use core_terms::params::OracleParams;
 use core_terms::units::UnixTimestamp;
+use record_read::contents::read_contents;
+use record_test::status::Status;
+use record_test::status::status_at;
 
 // The refusal on an open series, whose terms and state are still to be tested: 11, then 36.
 fn used(book: &[u8], series: u8) -> u8

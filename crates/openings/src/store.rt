@@ -4,12 +4,12 @@ ghost use Rattle.rules.specs.Record.{openRecord};
 ghost use Rattle.rules.specs.Book.{replaced};
 ghost use Rattle.core_parts.specs.States.{storedOf};
 ghost use Rattle.book.specs.Looks.{Allowed};
-ghost use Rattle.book.specs.Records.{openingWith};
+ghost use Rattle.record_read.specs.Records.{openingWith};
 use book::look::RECORD_SIZE;
-use book_store::store::write_open;
 use core_parts::state::SettlementParts;
 use core_terms::params::OracleParams;
 use core_terms::units::UnixTimestamp;
+use record_write::store::write_open;
 
 pub(crate) fn store_open(
     book: &mut [u8],

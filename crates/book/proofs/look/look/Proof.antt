@@ -6,7 +6,7 @@ use Rattle.rules.specs.Book.{look}
 use Rattle.core_parts.specs.States.{valueOr}
 use Rattle.book.specs.declared.look.LookResult.the-variants as L
 use Rattle.book.specs.Looks.{lookResultOf}
-use Rattle.book.proofs.Records.{refused-look, part-is, in-book, looked}
+use Rattle.book.proofs.Looks.{refused-look, part-is, in-book, looked}
 use Rattle.book.proofs.look.look.Statement.{statement}
 use Rattle.book.proofs.look.look.Tie as tie
 

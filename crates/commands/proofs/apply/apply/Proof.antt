@@ -7,7 +7,7 @@ use mir.Facts.{toZ-ofZ}
 use Rattle.rules.specs.Series.{Open, Offer, Ask, Fix}
 use Rattle.rules.specs.Record.{bookSize}
 use Rattle.core_prices.specs.Prints.{quoteOf}
-use Rattle.book.specs.Records.{openingWith}
+use Rattle.record_read.specs.Records.{openingWith}
 use Rattle.commands.specs.Entries.{entryOf}
 use Rattle.commands.proofs.Applied.{asked, no-book, no-command, by-command}
 use borrow.Author.Needs.{needs}

@@ -5,7 +5,7 @@ use mir.Syntax.{w64}
 use borrow.Author.Needs.{needs}
 use Rattle.rules.specs.Series.{Opening, Open}
 use Rattle.rules.specs.Entries.{command, openingAt}
-use Rattle.book.specs.Records.{openingWith}
+use Rattle.record_read.specs.Records.{openingWith}
 use Rattle.fields.proofs.Offsets.{came}
 use Rattle.commands.proofs.command.open_entry.Statement.{statement}
 use Rattle.commands.proofs.command.open_entry.Tie as tie

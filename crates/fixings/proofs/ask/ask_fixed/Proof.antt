@@ -1,6 +1,7 @@
 use mathlib.Core.Path.{refl, ap, _∙_}
 use native.Mathlib.Omega.{arith}
-use Rattle.book.proofs.Records.{isRefused, not-refused, allowed-book}
+use Rattle.book.proofs.Looks.{allowed-book}
+use Rattle.record_test.proofs.Statuses.{isRefused, not-refused}
 use Rattle.answers.specs.Commands.{bookAnswer}
 use Rattle.fixings.proofs.Fixes.{fixed-told}
 use borrow.Author.Needs.{needs}

@@ -1,7 +1,7 @@
 use mathlib.Core.Path.{refl, ap, _∙_}
 use native.Mathlib.Omega.{arith}
 use mir.Facts.{toZ-ofZ}
-use Rattle.book.proofs.Records.{allowed-book}
+use Rattle.book.proofs.Looks.{allowed-book}
 use Rattle.answers.specs.Commands.{bookAnswer}
 use Rattle.answers.proofs.Commands.{may-look, part-decided}
 use Rattle.fixings.proofs.Fixes.{asked}

@@ -7,7 +7,7 @@ use Rattle.rules.specs.Book.{recordAt}
 use Rattle.core_terms.specs.Errors.{numberOf}
 use Rattle.core_decide.specs.Decisions.{decisionOf}
 use Rattle.core_parts.proofs.Places.{passed, failed}
-use Rattle.book.proofs.Records.{allowed-book}
+use Rattle.book.proofs.Looks.{allowed-book}
 use Rattle.answers.specs.Commands.{bookAnswer}
 use Rattle.answers.proofs.Commands.{may-look, part-decided}
 use Rattle.fixings.proofs.Fixes.{fix-turned, fix-pending, fix-made}

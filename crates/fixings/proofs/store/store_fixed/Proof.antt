@@ -5,8 +5,9 @@ use Rattle.rules.specs.Bytes.{Bytes}
 use Rattle.rules.specs.Record.{fixedRecord}
 use Rattle.rules.specs.Book.{replaced}
 use Rattle.core_decide.specs.Decisions.{answerOf}
-use Rattle.book.proofs.Records.{partAt, put-is, allowed-book, allowed-part, contents-looked}
-use Rattle.book_store.proofs.Stores.{over-whole}
+use Rattle.book.proofs.Looks.{partAt, put-is, allowed-book, allowed-part}
+use Rattle.record_read.proofs.Records.{contents-looked}
+use Rattle.record_write.proofs.Stores.{over-whole}
 use borrow.Author.Needs.{needs}
 use Rattle.fixings.proofs.store.store_fixed.Statement.{statement}
 use Rattle.fixings.proofs.store.store_fixed.Tie as tie

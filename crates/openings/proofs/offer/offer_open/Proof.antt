@@ -11,8 +11,8 @@ use Rattle.core_prices.specs.Prints.{quoteOf}
 use Rattle.core_parts.specs.States.{storedOf}
 use Rattle.core_uses.specs.Uses.{indexOf}
 use Rattle.core_take.specs.Uses.{usedOf}
-use Rattle.book.specs.Records.{openingOf}
-use Rattle.book.proofs.Records.{allowed-book}
+use Rattle.record_read.specs.Records.{openingOf}
+use Rattle.book.proofs.Looks.{allowed-book}
 use Rattle.answers.proofs.Commands.{may-look, held-found}
 use Rattle.openings.proofs.Offers.{offer-refused, offer-used}
 use borrow.Author.Needs.{needs}

@@ -4,7 +4,7 @@ use Rattle.rules.specs.Series.{Open, step}
 use Rattle.rules.specs.Record.{openRecord}
 use Rattle.rules.specs.Book.{replaced}
 use Rattle.core_parts.proofs.Places.{passed, failed}
-use Rattle.book.specs.Records.{openingWith}
+use Rattle.record_read.specs.Records.{openingWith}
 use Rattle.answers.proofs.Commands.{answered, left, allowed}
 use Rattle.openings.proofs.Opens.{open-refused, open-done}
 use borrow.Author.Needs.{needs}

@@ -4,8 +4,8 @@ use native.Mathlib.Omega.{arith}
 use Rattle.rules.specs.Series.{step}
 use Rattle.core_parts.specs.States.{storedOf}
 use Rattle.core_parts.proofs.Places.{passed, failed}
-use Rattle.book.specs.Records.{openingOf}
-use Rattle.book.proofs.Records.{allowed-book}
+use Rattle.record_read.specs.Records.{openingOf}
+use Rattle.book.proofs.Looks.{allowed-book}
 use Rattle.answers.proofs.Commands.{may-look, held-found}
 use Rattle.openings.proofs.Opens.{on-used}
 use borrow.Author.Needs.{needs}

@@ -2,8 +2,8 @@ use mathlib.Core.Path.{_≡_, ap, _∙_}
 use native.Mathlib.Omega.{arith}
 use Rattle.rules.specs.Bytes.{Bytes}
 use Rattle.rules.specs.Book.{replaced}
-use Rattle.book.proofs.Records.{partAt, put-is, allowed-book, allowed-part}
-use Rattle.book_store.proofs.Stores.{over-whole}
+use Rattle.book.proofs.Looks.{partAt, put-is, allowed-book, allowed-part}
+use Rattle.record_write.proofs.Stores.{over-whole}
 use borrow.Author.Needs.{needs}
 use Rattle.openings.proofs.store.store_open.Statement.{statement}
 use Rattle.openings.proofs.store.store_open.Tie as tie

@@ -1,0 +1,185 @@
+-- What is stored in a record, by its tag and the tests that the code makes.
+use Prim.Native.Nat.{ℕ, zero, suc, _≤_, _<_}
+use mathlib.Core.Path.{_≡_, refl, sym, ap, _∙_}
+use mathlib.Core.Bool.{Bool, true, false, not, _&&_}
+use mathlib.Core.List.{[], _∷_}
+use native.Mathlib.Omega.{arith}
+use lib.ListN.{length, take, drop, drop-of-length-le}
+use lib.IntN.{ℤ}
+use lib.Dec.{ltb, eqb}
+use lib.Arith.{lt-of-le-ne}
+use borrow.Author.Tests.{ltb-true, ltb-false, eq-eqb, ne-eqb, eqb-true, eqb-false}
+use Rattle.rules.specs.Log.{if_then_else_, every}
+use Rattle.rules.specs.Bytes.{Bytes, allZero, little, unsignedAt}
+use Rattle.rules.specs.Answers.{ok, refused, Answer, Refused}
+use Rattle.rules.specs.Terms.{Terms, goodTerms}
+use Rattle.rules.specs.State.{Parts, candidatesOf, goodState, decideCall}
+use Rattle.rules.specs.Series.{empty, live, decided}
+use Rattle.rules.specs.Record.{recordSize, bookSize, seriesCount, openingIn, partsIn, tagIn, fixingTimeIn, seriesIn, bodyTests, openTests, fixedTests, standing, acceptable, stored}
+use Rattle.rules.specs.Book.{recordAt, look}
+use Rattle.rules.proofs.Bools.{both, and-true, and-false}
+use Rattle.book.specs.Looks.{Allowed}
+use Rattle.record_test.specs.declared.status.Status.{Status}
+use Rattle.record_test.specs.declared.status.Status.the-variants as S
+use Rattle.record_test.specs.Statuses.{goodBody, statusAs, statusOf, statusIn, storedIn, storedAt, decisionIn}
+
+-- ---- the record, by its tag
+
+module _ (bs : Bytes) where
+  pub stored-zero : (b : Bool) → tagIn bs ≡ 0 → allZero bs ≡ b → stored bs ≡ (if b then ok empty else refused 11)
+  unfolding stored acceptable seriesIn
+  stored-zero b t e = rw (t, e)
+
+  pub stored-above : 2 < tagIn bs → stored bs ≡ refused 11
+  unfolding stored acceptable
+  stored-above h = rw (ne-eqb (tagIn bs) 0 (omega arith), ne-eqb (tagIn bs) 1 (omega arith), ne-eqb (tagIn bs) 2 (omega arith))
+
+  pub stored-spoilt : (tagIn bs ≡ 0 → ⊥) → every (bodyTests bs) ≡ false → stored bs ≡ refused 11
+  unfolding stored acceptable
+  stored-spoilt h e = rw (ne-eqb (tagIn bs) 0 h, e) (go (eqb (tagIn bs) 1) (eqb (tagIn bs) 2))
+    where
+      go : (x y : Bool) → (if (if x then false else (if y then false else false)) then ok (seriesIn bs) else refused 11) ≡ refused 11
+      go true y = refl
+      go false true = refl
+      go false false = refl
+
+  -- where bytes 37 to 39 are not zero, whatever the terms and the state are
+  pub not-padded : eqb (unsignedAt bs 37 3) 0 ≡ false → every (bodyTests bs) ≡ false
+  not-padded e = simp (e, and-false)
+
+  -- where they are, by the terms and the state
+  pub body-is : {t : Terms} {s : Parts} → t ≡ openingIn bs .terms → s ≡ partsIn bs → unsignedAt bs 37 3 ≡ 0
+      → every (bodyTests bs) ≡ goodTerms t && goodState t s
+  body-is et es e = simp (eq-eqb (unsignedAt bs 37 3) 0 e, and-true) (λ i. goodTerms (sym et i) && goodState (sym et i) (sym es i))
+
+  -- where they are, an open and a fixed record
+  pub open-status : (b : Bool) → tagIn bs ≡ 1 → unsignedAt bs 37 3 ≡ 0 → every (openTests bs) ≡ b → (if b then statusAs S.Untested bs else refused 11) ≡ stored bs
+  unfolding stored acceptable seriesIn
+  open-status b t p f = rw (t, body-is refl refl p, f) (go (goodBody bs) b)
+    where
+      go : (x y : Bool) → (if y then (if x then ok (live (openingIn bs) (candidatesOf (partsIn bs))) else refused 11) else refused 11)
+          ≡ (if x && y then ok (live (openingIn bs) (candidatesOf (partsIn bs))) else refused 11)
+      go true y = refl
+      go false true = refl
+      go false false = refl
+
+  pub fixed-status : (b : Bool) → tagIn bs ≡ 2 → unsignedAt bs 37 3 ≡ 0 → b ≡ goodBody bs && every (fixedTests bs) → (if b then statusAs S.Fixed bs else refused 11) ≡ stored bs
+  unfolding stored acceptable seriesIn
+  fixed-status b t p f = rw (t, body-is refl refl p, f)
+
+  -- the decision at the fixing time
+  abbrev pub again : Answer
+  again = decided (openingIn bs) (candidatesOf (partsIn bs)) (fixingTimeIn bs)
+
+  -- the core's call for it, which tests the terms and the state
+  abbrev pub called : Answer
+  called = decideCall (openingIn bs .terms) (openingIn bs .expiry) (partsIn bs) (fixingTimeIn bs)
+
+  pub fixed-called : every (standing bs called) ≡ goodBody bs && every (fixedTests bs)
+  unfolding decideCall
+  fixed-called = go (goodTerms (openingIn bs .terms)) (goodState (openingIn bs .terms) (partsIn bs))
+    where
+      go : (x y : Bool) → every (standing bs (if not x then Refused 12 else (if not y then Refused 11 else again))) ≡ (x && y) && every (standing bs again)
+      go true true = refl
+      go true false = refl
+      go false y = refl
+
+  -- what is stored, by the status
+  pub status-stored : statusAs (statusOf bs) bs ≡ stored bs
+  status-stored = go (eqb (tagIn bs) 0) (ltb 2 (tagIn bs)) (eqb (unsignedAt bs 37 3) 0) (eqb (tagIn bs) 1) refl refl refl refl
+    where
+      zero-tag : (b : Bool) → tagIn bs ≡ 0 → allZero bs ≡ b → statusAs (if b then S.Empty else S.Refused 11) bs ≡ stored bs
+      zero-tag true t e = sym (stored-zero true t e)
+      zero-tag false t e = sym (stored-zero false t e)
+
+      one-tag : (b : Bool) → tagIn bs ≡ 1 → unsignedAt bs 37 3 ≡ 0 → every (openTests bs) ≡ b → statusAs (if b then S.Untested else S.Refused 11) bs ≡ stored bs
+      one-tag true t p e = open-status true t p e
+      one-tag false t p e = open-status false t p e
+
+      two-tag : (b : Bool) → tagIn bs ≡ 2 → unsignedAt bs 37 3 ≡ 0 → b ≡ goodBody bs && every (fixedTests bs) → statusAs (if b then S.Fixed else S.Refused 11) bs ≡ stored bs
+      two-tag true t p e = fixed-status true t p e
+      two-tag false t p e = fixed-status false t p e
+
+      go : (x y p z : Bool) → eqb (tagIn bs) 0 ≡ x → ltb 2 (tagIn bs) ≡ y → eqb (unsignedAt bs 37 3) 0 ≡ p → eqb (tagIn bs) 1 ≡ z
+          → statusAs (if x then (if allZero bs then S.Empty else S.Refused 11) else (if y then S.Refused 11 else (if not p then S.Refused 11 else
+          (if z then (if every (openTests bs) then S.Untested else S.Refused 11) else (if goodBody bs && every (fixedTests bs) then S.Fixed else S.Refused 11))))) bs ≡ stored bs
+      go true y p z ex ey ep ez = zero-tag (allZero bs) (eqb-true (tagIn bs) 0 ex) refl
+      go false true p z ex ey ep ez = sym (stored-above (ltb-true 2 (tagIn bs) ey))
+      go false false false z ex ey ep ez = sym (stored-spoilt (eqb-false (tagIn bs) 0 ex) (not-padded ep))
+      go false false true true ex ey ep ez = one-tag (every (openTests bs)) (eqb-true (tagIn bs) 1 ez) (eqb-true (unsignedAt bs 37 3) 0 ep) refl
+      go false false true false ex ey ep ez =
+          let small = ltb-false 2 (tagIn bs) ey in
+          let some : 0 < tagIn bs = lt-of-le-ne (omega arith) (λ e. eqb-false (tagIn bs) 0 ex (sym e)) in
+          let more : 1 < tagIn bs = lt-of-le-ne (omega arith) (λ e. eqb-false (tagIn bs) 1 ez (sym e)) in
+          let two : tagIn bs ≡ 2 = omega arith in
+          two-tag (goodBody bs && every (fixedTests bs)) two (eqb-true (unsignedAt bs 37 3) 0 ep) refl
+
+-- ---- bytes that are all zero, eight at a time
+
+pub zero-word : (n : ℕ) (bs : Bytes) → little (take n bs) ≡ 0 → allZero bs ≡ allZero (drop n bs)
+zero-word zero bs e = refl
+zero-word (suc n) [] e = refl
+zero-word (suc n) (b ∷ bs) e =
+    let z : b ≡ 0 = omega arith in
+    let r : little (take n bs) ≡ 0 = omega arith in rw z (zero-word n bs r)
+
+pub other-word : (n : ℕ) (bs : Bytes) → (little (take n bs) ≡ 0 → ⊥) → allZero bs ≡ false
+other-word n bs h = go (allZero bs) refl
+  where
+    zero-all : (n : ℕ) (bs : Bytes) → allZero bs ≡ true → little (take n bs) ≡ 0
+    zero-all zero bs e = refl
+    zero-all (suc n) [] e = refl
+    zero-all (suc n) (b ∷ bs) e =
+        let (x, y) = both (eqb b 0) (allZero bs) e in
+        let z = eqb-true b 0 x in
+        let r = zero-all n bs y in omega arith
+
+    go : (b : Bool) → allZero bs ≡ b → allZero bs ≡ false
+    go true e = absurd (h (zero-all n bs e))
+    go false e = e
+
+-- the last bytes at once
+pub last-word : (n : ℕ) (bs : Bytes) → length bs ≤ n → eqb (little (take n bs)) 0 ≡ allZero bs
+last-word n bs h = go (eqb (little (take n bs)) 0) refl
+  where
+    go : (b : Bool) → eqb (little (take n bs)) 0 ≡ b → b ≡ allZero bs
+    go true e = sym (zero-word n bs (eqb-true (little (take n bs)) 0 e) ∙ ap allZero (drop-of-length-le bs {i = n} h))
+    go false e = sym (other-word n bs (eqb-false (little (take n bs)) 0 e))
+
+-- ---- a record of the book, by the status of a look
+
+pub status-found : (book : Bytes) (s : ℕ) → statusAs (statusIn (look book s)) (recordAt s book) ≡ storedAt book s
+unfolding look
+status-found book s = go (eqb (length book) bookSize) (ltb s seriesCount)
+  where
+    go : (b d : Bool) → statusAs (statusIn (if not b then refused 35 else (if not d then refused 34 else ok (recordAt s book)))) (recordAt s book)
+        ≡ storedIn (if not b then refused 35 else (if not d then refused 34 else ok (recordAt s book)))
+    go true true = status-stored (recordAt s book)
+    go true false = refl
+    go false d = refl
+
+-- where the status is no refusal the look was allowed
+abbrev pub isRefused : Status → Bool
+isRefused S.Empty = false
+isRefused S.Untested = false
+isRefused S.Fixed = false
+isRefused (S.Refused r) = true
+
+pub not-refused : (book : Bytes) (s : ℕ) → isRefused (statusIn (look book s)) ≡ false → Allowed book s
+unfolding look
+not-refused book s h = go (eqb (length book) bookSize) (ltb s seriesCount) h
+  where
+    go : (b d : Bool) → isRefused (statusIn (if not b then refused 35 else (if not d then refused 34 else ok (recordAt s book)))) ≡ false
+        → (if not b then refused 35 else (if not d then refused 34 else ok (recordAt s book))) ≡ ok (recordAt s book)
+    go true true e = refl
+    go true false e = cc
+    go false d e = cc
+
+-- ---- the decision on a record
+
+module _ (bs : Bytes) (now : ℤ) where
+  pub decision-of : length bs ≡ recordSize → decisionIn bs now ≡ decideCall (openingIn bs .terms) (openingIn bs .expiry) (partsIn bs) now
+  decision-of e = rw (eq-eqb (length bs) recordSize e)
+
+  pub no-decision : (length bs ≡ recordSize → ⊥) → decisionIn bs now ≡ Refused 11
+  no-decision h = rw (ne-eqb (length bs) recordSize h)
