@@ -7,7 +7,7 @@ ghost use Rattle.book.specs.Looks.{Allowed};
 use book::look::RECORD_SIZE;
 use core_decide::decide::Decision;
 use record_read::contents::read_contents;
-use record_write::store::write_fixed;
+use record_store::store::write_fixed;
 
 // The fields of the record stay, and the outcome is added.
 pub(crate) fn store_fixed(book: &mut [u8], series: u8, outcome: Decision, fixing_time: i64)

@@ -9,7 +9,7 @@ use book::look::RECORD_SIZE;
 use core_parts::state::SettlementParts;
 use core_terms::params::OracleParams;
 use core_terms::units::UnixTimestamp;
-use record_write::store::write_open;
+use record_store::store::write_open;
 
 pub(crate) fn store_open(
     book: &mut [u8],

@@ -1,4 +1,4 @@
--- The fields of a record in the groups that are written, and the book with a record in its place.
+-- The fields of a record in the groups that are written, and a record over the bytes that are there.
 use Prim.Native.Nat.{ℕ}
 use mathlib.Core.List.{List, [], _∷_}
 use lib.IntN.{ℤ}
@@ -6,12 +6,11 @@ use lib.Dec.{eqb}
 use lib.ListN.{length}
 use Rattle.rules.specs.Log.{if_then_else_}
 use Rattle.rules.specs.Bytes.{Bytes, zeros, concat, bytes, signedBytes}
-use Rattle.rules.specs.Answers as R
 use Rattle.rules.specs.Terms.{Terms}
 use Rattle.rules.specs.State.{Parts}
 use Rattle.rules.specs.Series.{Opening}
-use Rattle.rules.specs.Record.{recordSize, fields, samplesOf, methodOf, priceOf}
-use Rattle.record_write.specs.declared.store.Outcome.{Outcome}
+use Rattle.rules.specs.Record.{recordSize, fields}
+use Rattle.record_write.specs.declared.record.Outcome.{Outcome}
 
 -- ---- the groups
 
@@ -38,9 +37,6 @@ lastFields fallbackTime fallbackPrice windowChanged linkChanged fallbackChanged 
 
 abbrev pub recordOf : Opening → Parts → Outcome → Bytes
 recordOf o s u = concat (fields (u .tag) o s (u .samples) (u .method) (u .«fixing_time») (u .price))
-
-abbrev pub outcomeOf : R.Answer → ℤ → Outcome
-outcomeOf a at = record { tag = 2; samples = samplesOf a; method = methodOf a; «fixing_time» = at; price = priceOf a }
 
 -- a record over the bytes that are there; bytes of another length stay
 abbrev pub recordOver : Bytes → Bytes → Bytes

@@ -1,4 +1,4 @@
-// A record written over its own part of the book, field by field. What is written is not tested: the
-// commands, which have tested it, are to call it.
+// The fields of a record written over its own part of the book. What is written is not tested:
+// `record_store` is to call it.
 mod put;
-pub mod store;
+pub mod record;

@@ -2,8 +2,8 @@ use mir.Syntax.{w64}
 use mir.Val.{SFits}
 use mir.Facts.{toZ-ofZ}
 use borrow.Author.Needs.{needs}
-use Rattle.record_write.proofs.store.write_open.Statement.{statement}
-use Rattle.record_write.proofs.store.write_open.Tie as tie
+use Rattle.record_store.proofs.store.write_open.Statement.{statement}
+use Rattle.record_store.proofs.store.write_open.Tie as tie
 
 get-requires : tie.Need-get-requires
 get-requires c κs = search needs

@@ -9,8 +9,8 @@ use Rattle.rules.specs.Record.{eightSigned}
 use Rattle.rules.proofs.State.{five-are}
 use Rattle.record_write.proofs.Stores.{numbers-stored}
 use borrow.Author.Needs.{needs}
-use Rattle.record_write.proofs.store.write_times.Statement.{statement}
-use Rattle.record_write.proofs.store.write_times.Tie as tie
+use Rattle.record_write.proofs.record.write_times.Statement.{statement}
+use Rattle.record_write.proofs.record.write_times.Tie as tie
 
 write-time-requires : tie.Need-write-time-requires
 write-time-requires c κs = (omega arith, omega arith)

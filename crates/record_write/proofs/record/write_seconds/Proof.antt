@@ -4,8 +4,8 @@ use mathlib.Core.List.{[], _∷_}
 use Rattle.core_terms.specs.Params.{termsOf}
 use Rattle.record_write.proofs.Stores.{numbers-stored, method-bytes}
 use borrow.Author.Needs.{needs}
-use Rattle.record_write.proofs.store.write_seconds.Statement.{statement}
-use Rattle.record_write.proofs.store.write_seconds.Tie as tie
+use Rattle.record_write.proofs.record.write_seconds.Statement.{statement}
+use Rattle.record_write.proofs.record.write_seconds.Tie as tie
 
 put-u32-requires : tie.Need-put-u32-requires
 put-u32-requires c κs = omega arith

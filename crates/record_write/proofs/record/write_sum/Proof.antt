@@ -3,9 +3,8 @@ use mathlib.Core.List.{[], _∷_}
 use mir.Facts.{toZ-ofZ}
 use Rattle.rules.specs.Bytes.{word}
 use Rattle.record_write.proofs.Stores.{numbers-stored}
-use borrow.Author.Needs.{needs}
-use Rattle.record_write.proofs.store.write_sum.Statement.{statement}
-use Rattle.record_write.proofs.store.write_sum.Tie as tie
+use Rattle.record_write.proofs.record.write_sum.Statement.{statement}
+use Rattle.record_write.proofs.record.write_sum.Tie as tie
 
 put-i64-requires : tie.Need-put-i64-requires
 put-i64-requires c κs = omega arith

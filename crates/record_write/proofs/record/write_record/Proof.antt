@@ -8,8 +8,8 @@ use Rattle.core_terms.specs.Params.{termsOf}
 use Rattle.core_parts.specs.States.{storedOf}
 use Rattle.record_write.proofs.Stores.{record-stored, over-whole, over-other}
 use borrow.Author.Needs.{needs}
-use Rattle.record_write.proofs.store.write_record.Statement.{statement}
-use Rattle.record_write.proofs.store.write_record.Tie as tie
+use Rattle.record_write.proofs.record.write_record.Statement.{statement}
+use Rattle.record_write.proofs.record.write_record.Tie as tie
 
 returns : tie.Need-returns
 returns c = sym (over-other (c .before .before .args .part .now) _ (λ e. omega arith))

@@ -11,8 +11,8 @@ use Rattle.rules.proofs.Bytes.{word-below}
 use Rattle.core_terms.specs.Params.{termsOf}
 use Rattle.record_write.proofs.Stores.{head-stored}
 use borrow.Author.Needs.{needs}
-use Rattle.record_write.proofs.store.write_head.Statement.{statement}
-use Rattle.record_write.proofs.store.write_head.Tie as tie
+use Rattle.record_write.proofs.record.write_head.Statement.{statement}
+use Rattle.record_write.proofs.record.write_head.Tie as tie
 
 i8-to-bits-requires : tie.Need-i8-to-bits-requires
 i8-to-bits-requires c κs = search needs

@@ -5,31 +5,27 @@ ghost use lib.IntN.{pos};
 ghost use lib.ListN.{length, getD};
 ghost use lib.Seq.{sets};
 ghost use Rattle.rules.specs.Bytes.{concat, bytes, signedBytes};
-ghost use Rattle.rules.specs.Record.{recordSize, eight, eightSigned, openRecord, fixedRecord};
+ghost use Rattle.rules.specs.Record.{recordSize, eight, eightSigned};
 ghost use Rattle.core_terms.specs.Params.{termsOf};
 ghost use Rattle.core_parts.specs.States.{storedOf};
-ghost use Rattle.core_decide.specs.Decisions.{answerOf};
 ghost use Rattle.record_read.specs.Records.{openingWith};
-ghost use Rattle.record_write.specs.Stores.{headFields, secondsFields, sumFields, lastFields, recordOf, outcomeOf, recordOver};
+ghost use Rattle.record_write.specs.Stores.{headFields, secondsFields, sumFields, lastFields, recordOf, recordOver};
 use crate::put::put_bytes;
 use crate::put::put_i64;
 use crate::put::put_u16;
 use crate::put::put_u32;
 use crate::put::put_u64;
 use book::look::RECORD_SIZE;
-use core_decide::decide::Decision;
-use core_decide::decide::SettleMethod;
 use core_parts::state::SettlementParts;
 use core_terms::params::OracleParams;
-use core_terms::units::UnixTimestamp;
 
 // The fields of a record beside its opening and its candidates.
-struct Outcome {
-    tag: u8,
-    samples: u16,
-    method: u8,
-    fixing_time: i64,
-    price: u64,
+pub struct Outcome {
+    pub tag: u8,
+    pub samples: u16,
+    pub method: u8,
+    pub fixing_time: i64,
+    pub price: u64,
 }
 
 // ---- the fields, in groups
@@ -128,7 +124,7 @@ fn write_last(slice: &mut [u8], state: SettlementParts, outcome: Outcome)
 // ---- the record as a whole
 
 // Writes a record over a record's bytes. Bytes of another length stay.
-fn write_record(
+pub fn write_record(
     part: &mut [u8],
     params: OracleParams,
     max_conf_bps: u16,
@@ -156,73 +152,4 @@ fn write_record(
     let prices = state.next_prices;
     write_prices(part, prices);
     write_last(part, state, outcome);
-}
-
-// Writes an open record over a record's bytes. Bytes of another length stay.
-pub fn write_open(
-    part: &mut [u8],
-    params: OracleParams,
-    max_conf_bps: u16,
-    expiry: UnixTimestamp,
-    state: SettlementParts,
-)
-    ensures { λ _. ⌜ now (part .exit) ≡ recordOver (now (part .entry)) (openRecord (openingWith params «max_conf_bps» (expiry .0)) (storedOf state)) ⌝ }
-{
-    let none = Outcome {
-        tag: 1,
-        samples: 0,
-        method: 0,
-        fixing_time: 0,
-        price: 0,
-    };
-    write_record(part, params, max_conf_bps, expiry.get(), state, none);
-}
-
-// The outcome that a decision is at a time.
-fn outcome_of(d: Decision, fixing_time: i64) -> Outcome
-    ensures { λ r. ⌜ r ≡ outcomeOf (answerOf d) «fixing_time» ⌝ }
-{
-    match d {
-        Decision::Settle {
-            method,
-            price,
-            samples,
-        } => Outcome {
-            tag: 2,
-            samples: samples,
-            method: method.number(),
-            fixing_time: fixing_time,
-            price: price.get(),
-        },
-        Decision::Void => Outcome {
-            tag: 2,
-            samples: 0,
-            method: SettleMethod::Void.number(),
-            fixing_time: fixing_time,
-            price: 0,
-        },
-        Decision::Wait { until: _ } => Outcome {
-            tag: 2,
-            samples: 0,
-            method: 0,
-            fixing_time: fixing_time,
-            price: 0,
-        },
-    }
-}
-
-// Writes a fixed record over a record's bytes, with its outcome. Bytes of another length stay.
-pub fn write_fixed(
-    part: &mut [u8],
-    params: OracleParams,
-    max_conf_bps: u16,
-    expiry: UnixTimestamp,
-    state: SettlementParts,
-    outcome: Decision,
-    fixing_time: i64,
-)
-    ensures { λ _. ⌜ now (part .exit) ≡ recordOver (now (part .entry)) (fixedRecord (openingWith params «max_conf_bps» (expiry .0)) (storedOf state) (answerOf outcome) «fixing_time») ⌝ }
-{
-    let o = outcome_of(outcome, fixing_time);
-    write_record(part, params, max_conf_bps, expiry.get(), state, o);
 }

@@ -4,8 +4,8 @@ use mir.Syntax.{w64}
 use mir.Val.{SFits}
 use mir.Facts.{toZ-ofZ}
 use borrow.Author.Needs.{needs}
-use Rattle.record_write.proofs.store.write_time.Statement.{statement}
-use Rattle.record_write.proofs.store.write_time.Tie as tie
+use Rattle.record_write.proofs.record.write_time.Statement.{statement}
+use Rattle.record_write.proofs.record.write_time.Tie as tie
 
 mul-put-i64 : tie.Need-mul-put-i64
 mul-put-i64 c = search needs

@@ -1,7 +1,7 @@
 use mir.Facts.{toZ-ofZ}
 use borrow.Author.Needs.{needs}
-use Rattle.record_write.proofs.store.outcome_of.Statement.{statement}
-use Rattle.record_write.proofs.store.outcome_of.Tie as tie
+use Rattle.record_store.proofs.store.outcome_of.Statement.{statement}
+use Rattle.record_store.proofs.store.outcome_of.Tie as tie
 
 enum-known-d : tie.Need-enum-known-d
 enum-known-d c = search needs

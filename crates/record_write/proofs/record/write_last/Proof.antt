@@ -9,8 +9,8 @@ use Rattle.rules.specs.Bytes.{word}
 use Rattle.rules.specs.Record.{recordSize}
 use Rattle.record_write.proofs.Stores.{numbers-stored}
 use borrow.Author.Needs.{needs}
-use Rattle.record_write.proofs.store.write_last.Statement.{statement}
-use Rattle.record_write.proofs.store.write_last.Tie as tie
+use Rattle.record_write.proofs.record.write_last.Statement.{statement}
+use Rattle.record_write.proofs.record.write_last.Tie as tie
 
 -- ---- no store changes the length
 

@@ -9,8 +9,8 @@ use Rattle.rules.specs.Record.{eight}
 use Rattle.rules.proofs.State.{five-are}
 use Rattle.record_write.proofs.Stores.{numbers-stored}
 use borrow.Author.Needs.{needs}
-use Rattle.record_write.proofs.store.write_prices.Statement.{statement}
-use Rattle.record_write.proofs.store.write_prices.Tie as tie
+use Rattle.record_write.proofs.record.write_prices.Statement.{statement}
+use Rattle.record_write.proofs.record.write_prices.Tie as tie
 
 write-price-requires : tie.Need-write-price-requires
 write-price-requires c κs = (omega arith, omega arith)

@@ -1,0 +1,8 @@
+-- The outcome that is stored of a decision.
+use lib.IntN.{ℤ}
+use Rattle.rules.specs.Answers.{Answer}
+use Rattle.rules.specs.Record.{samplesOf, methodOf, priceOf}
+use Rattle.record_write.specs.declared.record.Outcome.{Outcome}
+
+abbrev pub outcomeOf : Answer → ℤ → Outcome
+outcomeOf a at = record { tag = 2; samples = samplesOf a; method = methodOf a; «fixing_time» = at; price = priceOf a }

@@ -1,0 +1,84 @@
+// Open and fixed records written.
+ghost use mathlib.Core.Path.{_≡_};
+ghost use Rattle.rules.specs.Record.{openRecord, fixedRecord};
+ghost use Rattle.core_parts.specs.States.{storedOf};
+ghost use Rattle.core_decide.specs.Decisions.{answerOf};
+ghost use Rattle.record_read.specs.Records.{openingWith};
+ghost use Rattle.record_write.specs.Stores.{recordOver};
+ghost use Rattle.record_store.specs.Outcomes.{outcomeOf};
+use core_decide::decide::Decision;
+use core_decide::decide::SettleMethod;
+use core_parts::state::SettlementParts;
+use core_terms::params::OracleParams;
+use core_terms::units::UnixTimestamp;
+use record_write::record::Outcome;
+use record_write::record::write_record;
+
+// Writes an open record over a record's bytes. Bytes of another length stay.
+pub fn write_open(
+    part: &mut [u8],
+    params: OracleParams,
+    max_conf_bps: u16,
+    expiry: UnixTimestamp,
+    state: SettlementParts,
+)
+    ensures { λ _. ⌜ now (part .exit) ≡ recordOver (now (part .entry)) (openRecord (openingWith params «max_conf_bps» (expiry .0)) (storedOf state)) ⌝ }
+{
+    let none = Outcome {
+        tag: 1,
+        samples: 0,
+        method: 0,
+        fixing_time: 0,
+        price: 0,
+    };
+    write_record(part, params, max_conf_bps, expiry.get(), state, none);
+}
+
+// The outcome that a decision is at a time.
+fn outcome_of(d: Decision, fixing_time: i64) -> Outcome
+    ensures { λ r. ⌜ r ≡ outcomeOf (answerOf d) «fixing_time» ⌝ }
+{
+    match d {
+        Decision::Settle {
+            method,
+            price,
+            samples,
+        } => Outcome {
+            tag: 2,
+            samples: samples,
+            method: method.number(),
+            fixing_time: fixing_time,
+            price: price.get(),
+        },
+        Decision::Void => Outcome {
+            tag: 2,
+            samples: 0,
+            method: SettleMethod::Void.number(),
+            fixing_time: fixing_time,
+            price: 0,
+        },
+        Decision::Wait { until: _ } => Outcome {
+            tag: 2,
+            samples: 0,
+            method: 0,
+            fixing_time: fixing_time,
+            price: 0,
+        },
+    }
+}
+
+// Writes a fixed record over a record's bytes, with its outcome. Bytes of another length stay.
+pub fn write_fixed(
+    part: &mut [u8],
+    params: OracleParams,
+    max_conf_bps: u16,
+    expiry: UnixTimestamp,
+    state: SettlementParts,
+    outcome: Decision,
+    fixing_time: i64,
+)
+    ensures { λ _. ⌜ now (part .exit) ≡ recordOver (now (part .entry)) (fixedRecord (openingWith params «max_conf_bps» (expiry .0)) (storedOf state) (answerOf outcome) «fixing_time») ⌝ }
+{
+    let o = outcome_of(outcome, fixing_time);
+    write_record(part, params, max_conf_bps, expiry.get(), state, o);
+}
