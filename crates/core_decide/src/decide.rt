@@ -112,22 +112,21 @@ fn settle(method: SettleMethod, low: u64, high: u64, count: u16, expo: i8) -> De
     }
 }
 
-// The same from t + d on.
+// The same, from the terms' delay after t on.
 fn settle_from(
+    p: OracleParams,
     t: i64,
-    d: u32,
     now: i64,
     method: SettleMethod,
     low: u64,
     high: u64,
     count: u16,
-    expo: i8,
 ) -> DecisionResult
-    ensures { λ r. ⌜ decisionOf r ≡ from now (t +ℤ pos d) (settle expo (methodOf method) (high * 2 ^ 64 + low) count) ⌝ }
+    ensures { λ r. ⌜ decisionOf r ≡ from now (t +ℤ pos (p .«challenge_delay_s»)) (settle (p .expo) (methodOf method) (high * 2 ^ 64 + low) count) ⌝ }
 {
-    match reached(t, d, now) {
-        Due::Now => settle(method, low, high, count, expo),
-        Due::Wait(until) => DecisionResult::Ok(Decision::Wait { until: until }),
+    match reached(t, p.challenge_delay_s, now) {
+        Due::Now => settle(method, low, high, count, p.expo),
+        Due::Wait(due) => DecisionResult::Ok(Decision::Wait { until: due }),
         Due::Overflow => DecisionResult::Err(CoreError::Overflow),
     }
 }
@@ -164,33 +163,32 @@ fn chain_sum(prices: [u64; 5], len: u8) -> numbers::wide::Wide
     sum
 }
 
-// By the mean of the first len prices, from t + d on. The sum is taken only then.
+// By the mean of the chain's prices, from the terms' delay after t on. The sum is taken only then.
 fn chain_from(
+    p: OracleParams,
+    s: SettlementParts,
     t: i64,
-    d: u32,
     now: i64,
     method: SettleMethod,
-    prices: [u64; 5],
-    len: u8,
-    expo: i8,
 ) -> DecisionResult
-    ensures { λ r. ⌜ decisionOf r ≡ from now (t +ℤ pos d) (settle expo (methodOf method) (total (front 0 len prices)) len) ⌝ }
+    ensures { λ r. ⌜ decisionOf r ≡ from now (t +ℤ pos (p .«challenge_delay_s»)) (settle (p .expo) (methodOf method) (total (front 0 (s .«next_len») (s .«next_prices»))) (s .«next_len»)) ⌝ }
 {
-    match reached(t, d, now) {
+    match reached(t, p.challenge_delay_s, now) {
         Due::Now => {
-            let sum = chain_sum(prices, len);
-            settle(method, sum.low, sum.high, len as u16, expo)
+            let prices = s.next_prices;
+            let sum = chain_sum(prices, s.next_len);
+            settle(method, sum.low, sum.high, s.next_len as u16, p.expo)
         }
         Due::Wait(until) => DecisionResult::Ok(Decision::Wait { until: until }),
         Due::Overflow => DecisionResult::Err(CoreError::Overflow),
     }
 }
 
-// No price, from t + d on.
-fn void_from(t: i64, d: u32, now: i64) -> DecisionResult
-    ensures { λ r. ⌜ decisionOf r ≡ from now (t +ℤ pos d) Answer.Void ⌝ }
+// No price, from the terms' delay after t on.
+fn void_from(p: OracleParams, t: i64, now: i64) -> DecisionResult
+    ensures { λ r. ⌜ decisionOf r ≡ from now (t +ℤ pos (p .«challenge_delay_s»)) Answer.Void ⌝ }
 {
-    match reached(t, d, now) {
+    match reached(t, p.challenge_delay_s, now) {
         Due::Now => DecisionResult::Ok(Decision::Void),
         Due::Wait(until) => DecisionResult::Ok(Decision::Wait { until: until }),
         Due::Overflow => DecisionResult::Err(CoreError::Overflow),
@@ -204,26 +202,27 @@ fn partial(p: OracleParams, s: SettlementParts, n: u16, hard: i64, now: i64) -> 
     if now < hard {
         return DecisionResult::Ok(Decision::Wait { until: hard });
     }
-    let d = p.challenge_delay_s;
-    let expo = p.expo;
-    let m = s.next_len;
-    if 0 < m {
+    if 0 < s.next_len {
         let t = numbers::time::later(hard, s.next_print_changed);
-        let prices = s.next_prices;
-        return chain_from(t, d, now, SettleMethod::PartialNextPrint, prices, m, expo);
+        return chain_from(p, s, t, now, SettleMethod::PartialNextPrint);
     }
     if 0 < n {
         let t = numbers::time::later(hard, s.window_changed);
-        let low = s.sample_sum_low;
-        let high = s.sample_sum_high;
-        return settle_from(t, d, now, SettleMethod::PartialWindow, low, high, n, expo);
+        return settle_from(
+            p,
+            t,
+            now,
+            SettleMethod::PartialWindow,
+            s.sample_sum_low,
+            s.sample_sum_high,
+            n,
+        );
     }
-    let price = s.fallback_price;
-    if 0 < price {
+    if 0 < s.fallback_price {
         let t = numbers::time::later(hard, s.fallback_changed);
-        return settle_from(t, d, now, SettleMethod::Fallback, price, 0, 1, expo);
+        return settle_from(p, t, now, SettleMethod::Fallback, s.fallback_price, 0, 1);
     }
-    void_from(hard, d, now)
+    void_from(p, hard, now)
 }
 
 // The decision at the time now on a series with the terms p that expires at expiry.
@@ -237,21 +236,29 @@ fn cascade(p: OracleParams, s: SettlementParts, expiry: i64, now: i64) -> Decisi
         return DecisionResult::Err(CoreError::Overflow);
     };
     let n = u32::count_ones(s.filled_slots) as u16;
-    let low = s.sample_sum_low;
-    let high = s.sample_sum_high;
-    let expo = p.expo;
     if p.slots() <= (n as u32) {
-        return settle(SettleMethod::Window, low, high, n, expo);
+        return settle(
+            SettleMethod::Window,
+            s.sample_sum_low,
+            s.sample_sum_high,
+            n,
+            p.expo,
+        );
     }
-    let d = p.challenge_delay_s;
     if p.min_samples <= n {
         let t = numbers::time::later(expiry, s.window_changed);
-        return settle_from(t, d, now, SettleMethod::Window, low, high, n, expo);
+        return settle_from(
+            p,
+            t,
+            now,
+            SettleMethod::Window,
+            s.sample_sum_low,
+            s.sample_sum_high,
+            n,
+        );
     }
-    let m = s.next_len;
-    if p.k_next_print <= m {
-        let prices = s.next_prices;
-        return chain_from(expiry, d, now, SettleMethod::NextPrint, prices, m, expo);
+    if p.k_next_print <= s.next_len {
+        return chain_from(p, s, expiry, now, SettleMethod::NextPrint);
     }
     partial(p, s, n, hard, now)
 }

@@ -1,45 +1,51 @@
-use mathlib.Core.Path.{_≡_}
-use mathlib.Core.Bool.{false}
-use native.Mathlib.Nat.{zero-add}
+use mathlib.Core.Path.{_≡_, sym}
+use mathlib.Core.Bool.{true, false}
+use native.Mathlib.Omega.{arith}
+use lib.IntN.{pos}
 use lib.Signed.{ltZ}
-use mir.Syntax.{w8, w64}
+use mir.Syntax.{w64}
 use mir.Val.{SFits}
 use mir.Facts.{toZ-ofZ}
 use borrow.Author.Needs.{needs}
-use borrow.Author.Tests.{lt-ltb, le-ltb}
+use Rattle.rules.specs.Log.{front, size}
 use Rattle.rules.specs.State.{candidatesOf}
+use Rattle.rules.specs.Taking.{Candidates}
+use Rattle.rules.specs.Terms.{Terms}
 use Rattle.rules.proofs.Logs.{size-front}
 use Rattle.core_terms.specs.Params.{termsOf}
 use Rattle.core_parts.specs.States.{storedOf}
-use Rattle.numbers.proofs.Times.{later-fits}
+use Rattle.core_decide.proofs.Steps.{test, deadline-ahead, partial-print, partial-window, fallback, void}
 use Rattle.core_decide.proofs.decide.partial.Statement.{statement}
 use Rattle.core_decide.proofs.decide.partial.Tie as tie
 
-expo-fits : (c : tie.After-struct-told) → SFits w8 (c .before .before .args .p .expo)
-expo-fits c = search needs
+abbrev terms : tie.Start → Terms
+terms s = termsOf (s .args .p)
 
-link-fits : (c : tie.After-struct-told2) → SFits w64 (c .before .before .before .before .args .s .«next_print_changed»)
+abbrev candidates : tie.Start → Candidates
+candidates s = candidatesOf (storedOf (s .args .s))
+
+links : (s : tie.Start) → s .args .s .«next_len» ≡ size (candidates s .times)
+unfolding storedOf candidatesOf
+links s = sym (size-front (pos 0) (s .args .s .«next_len») (s .args .s .«next_times»))
+
+link-fits : (c : tie.After-struct-told) → SFits w64 (c .before .before .before .before .args .s .«next_print_changed»)
 link-fits c = search needs
 
-window-fits : (c : tie.After-struct-told3) → SFits w64 (c .before .before .before .before .before .args .s .«window_changed»)
+window-fits : (c : tie.After-struct-told2) → SFits w64 (c .before .before .before .before .before .args .s .«window_changed»)
 window-fits c = search needs
 
-fallback-fits : (c : tie.After-struct-told4) → SFits w64 (c .before .before .before .before .before .before .args .s .«fallback_changed»)
+fallback-fits : (c : tie.After-struct-told3) → SFits w64 (c .before .before .before .before .before .before .before .args .s .«fallback_changed»)
 fallback-fits c = search needs
 
 past : (c : tie.Else1) → ltZ (c .before .args .now) (c .before .args .hard) ≡ false
-past c =
-    let fh = c .before .fits .hard in
-    let fn = c .before .fits .now in
-    simp toZ-ofZ at (c .if1 .left)
+past c = let s = c .before in test false (s .args .now) (s .args .hard) (s .fits .now) (s .fits .hard) (c .if1 .left)
 
 returns : tie.Need-returns
-unfolding termsOf storedOf candidatesOf
+unfolding termsOf
 returns c E deadline count =
-    let fh = c .before .fits .hard in
-    let fn = c .before .fits .now in
-    let g1 = simp toZ-ofZ at (c .if1 .taken) in
-    simp (toZ-ofZ, ← deadline, g1)
+    let s = c .before in
+    let a = s .args in
+    rw (toZ-ofZ (s .fits .hard)) (deadline-ahead (terms s) E (candidates s) (a .now) (a .hard) deadline (test true (a .now) (a .hard) (s .fits .now) (s .fits .hard) (c .if1 .taken)))
 
 later-requires : tie.Need-later-requires
 later-requires c κs = search needs
@@ -50,20 +56,13 @@ chain-from-requires c κs = search needs
 returns-2 : tie.Need-returns-2
 unfolding termsOf storedOf candidatesOf
 returns-2 c E deadline count =
-    let l = c .before .before in
+    let l = c .before in
     let i2 = l .before .before in
     let i1 = i2 .before .before in
     let s = i1 .before in
     let a = s .args in
-    let fh = s .fits .hard in
-    let fn = s .fits .now in
-    let fe = expo-fits (i2 .before) in
-    let ft = link-fits (l .before) in
-    let g2 = lt-ltb 0 (a .s .«next_len») (i2 .if2 .taken) in
-    let r = simp toZ-ofZ at (l .later .ensures) in
-    let fr = later-fits (a .hard) (a .s .«next_print_changed») (l .later .result) r fh ft in
-    let q = simp toZ-ofZ at (c .chain-from .ensures) in
-    simp (← deadline, size-front, past i1, g2) (rw r at q)
+    partial-print (terms s) E (candidates s) (a .now) (a .hard) deadline (past i1) (s .fits .hard) (s .fits .now) (a .s .«next_len») (links s)
+    (l .later .result) (link-fits (l .before)) (l .later .ensures) (i2 .if2 .taken) (c .chain-from .ensures)
 
 later-requires-2 : tie.Need-later-requires-2
 later-requires-2 c κs = search needs
@@ -80,16 +79,8 @@ returns-3 c E deadline count =
     let i1 = i2 .before .before in
     let s = i1 .before in
     let a = s .args in
-    let fh = s .fits .hard in
-    let fn = s .fits .now in
-    let fe = expo-fits (i2 .before) in
-    let ft = window-fits (l .before) in
-    let g2 = le-ltb 0 (a .s .«next_len») (i2 .if2 .left) in
-    let g3 = lt-ltb 0 (a .n) (i3 .if3 .taken) in
-    let r = simp toZ-ofZ at (l .later2 .ensures) in
-    let fr = later-fits (a .hard) (a .s .«window_changed») (l .later2 .result) r fh ft in
-    let q = simp toZ-ofZ at (c .settle-from .ensures) in
-    simp (← deadline, ← count, size-front, past i1, g2, g3) (rw r at q)
+    partial-window (terms s) E (candidates s) (a .now) (a .hard) deadline (past i1) (s .fits .hard) (s .fits .now) (a .s .«next_len») (links s) (i2 .if2 .left) (a .n) count
+    (l .later2 .result) (window-fits (l .before)) (l .later2 .ensures) (omega (arith, i3 .if3 .taken)) (c .settle-from .ensures)
 
 later-requires-3 : tie.Need-later-requires-3
 later-requires-3 c κs = search needs
@@ -102,22 +93,13 @@ unfolding termsOf storedOf candidatesOf
 returns-4 c E deadline count =
     let l = c .before in
     let i4 = l .before .before in
-    let i3 = i4 .before in
+    let i3 = i4 .before .before in
     let i2 = i3 .before in
     let i1 = i2 .before .before in
     let s = i1 .before in
     let a = s .args in
-    let fh = s .fits .hard in
-    let fn = s .fits .now in
-    let fe = expo-fits (i2 .before) in
-    let ft = fallback-fits (l .before) in
-    let g2 = le-ltb 0 (a .s .«next_len») (i2 .if2 .left) in
-    let g3 = le-ltb 0 (a .n) (i3 .if3 .left) in
-    let g4 = lt-ltb 0 (a .s .«fallback_price») (i4 .if4 .taken) in
-    let r = simp toZ-ofZ at (l .later3 .ensures) in
-    let fr = later-fits (a .hard) (a .s .«fallback_changed») (l .later3 .result) r fh ft in
-    let q = simp (toZ-ofZ, zero-add) at (c .settle-from2 .ensures) in
-    simp (← deadline, ← count, size-front, past i1, g2, g3, g4) (rw r at q)
+    fallback (terms s) E (candidates s) (a .now) (a .hard) deadline (past i1) (s .fits .hard) (s .fits .now) (a .s .«next_len») (links s) (i2 .if2 .left) (a .n) count (i3 .if3 .left)
+    (l .later3 .result) (fallback-fits (l .before)) (l .later3 .ensures) (i4 .if4 .taken) (c .settle-from2 .ensures)
 
 void-from-requires : tie.Need-void-from-requires
 void-from-requires c κs = search needs
@@ -126,17 +108,13 @@ returns-5 : tie.Need-returns-5
 unfolding termsOf storedOf candidatesOf
 returns-5 c E deadline count =
     let i4 = c .before in
-    let i3 = i4 .before in
+    let i3 = i4 .before .before in
     let i2 = i3 .before in
     let i1 = i2 .before .before in
     let s = i1 .before in
     let a = s .args in
-    let fh = s .fits .hard in
-    let fn = s .fits .now in
-    let g2 = le-ltb 0 (a .s .«next_len») (i2 .if2 .left) in
-    let g3 = le-ltb 0 (a .n) (i3 .if3 .left) in
-    let g4 = le-ltb 0 (a .s .«fallback_price») (i4 .if4 .left) in
-    simp (← deadline, ← count, size-front, past i1, g2, g3, g4) (simp toZ-ofZ at (c .void-from .ensures))
+    void (terms s) E (candidates s) (a .now) (a .hard) deadline (past i1) (s .fits .hard) (s .fits .now) (a .s .«next_len») (links s) (i2 .if2 .left) (a .n) count (i3 .if3 .left)
+    (i4 .if4 .left) (c .void-from .ensures)
 
 pub partial-spec : {M : Type 1} → statement M
 partial-spec =

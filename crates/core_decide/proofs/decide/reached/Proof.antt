@@ -1,10 +1,11 @@
-use mathlib.Core.Path.{_≡_, sym, _∙_}
+use mathlib.Core.Path.{_≡_}
 use lib.IntN.{ℤ, pos, _+ℤ_}
 use mir.Facts.{toZ-ofZ}
 use borrow.Author.Needs.{needs}
 use Rattle.numbers.specs.Times.{timeOf}
 use Rattle.numbers.specs.declared.time.Time.the-variants.{At}
-use Rattle.numbers.proofs.Times.{at-is, at-fits, over-is}
+use Rattle.numbers.proofs.Times.{at-is, at-fits}
+use Rattle.core_decide.proofs.Steps.{sum-is, sum-over}
 use Rattle.core_decide.proofs.decide.reached.Statement.{statement}
 use Rattle.core_decide.proofs.decide.reached.Tie as tie
 
@@ -14,8 +15,9 @@ time s = s .args .t +ℤ pos (s .args .d)
 
 answered : (c : tie.After-until) → At (c .until .given .0 .0) ≡ timeOf (time (c .before .before .before))
 answered c =
-    let ft = c .before .before .before .fits .t in
-    simp toZ-ofZ at (sym (c .until .given .1) ∙ c .before .before .after .ensures)
+    let call = c .before .before in
+    let s = call .before in
+    sum-is (s .args .t) (s .args .d) (s .fits .t) (call .after .result) (call .after .ensures) (c .until .given .0 .0) (c .until .given .1)
 
 after-requires : tie.Need-after-requires
 after-requires c κs = search needs
@@ -28,10 +30,9 @@ enum-told c = search needs
 
 returns : tie.Need-returns
 returns c a =
-    let s = c .before .before .before in
-    let ft = s .fits .t in
-    let e = simp toZ-ofZ at (sym (c .enum-told .given .1) ∙ c .before .before .after .ensures) in
-    rw (over-is (time s) e)
+    let call = c .before .before in
+    let s = call .before in
+    rw (sum-over (s .args .t) (s .args .d) (s .fits .t) (call .after .result) (call .after .ensures) (c .enum-told .given .1))
 
 returns-2 : tie.Need-returns-2
 returns-2 c a =

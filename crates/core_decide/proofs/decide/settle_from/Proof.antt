@@ -1,28 +1,20 @@
 use Prim.Native.Nat.{_+_, _*_, _^_}
-use mathlib.Core.Path.{_≡_, _∙_}
-use lib.IntN.{pos, _+ℤ_}
-use mir.Syntax.{w64}
+use mathlib.Core.Path.{_∙_}
+use mir.Syntax.{w8, w64}
 use mir.Val.{SFits}
-use mir.Facts.{toZ-ofZ}
 use borrow.Author.Needs.{needs}
 use Rattle.rules.specs.Answers.{Answer}
-use Rattle.rules.specs.Decision.{settle, from}
-use Rattle.core_decide.specs.Decisions.{methodOf, dueOf}
+use Rattle.rules.specs.Decision.{settle}
+use Rattle.core_decide.specs.Decisions.{decisionOf, methodOf}
+use Rattle.core_decide.proofs.Steps.{settled, comes, waits, over}
 use Rattle.core_decide.proofs.decide.settle_from.Statement.{statement}
 use Rattle.core_decide.proofs.decide.settle_from.Tie as tie
 
 abbrev answer : tie.Start → Answer
-answer s = settle (s .args .expo) (methodOf (s .args .method)) (s .args .high * 2 ^ 64 + s .args .low) (s .args .count)
+answer s = settle (s .args .p .expo) (methodOf (s .args .method)) (s .args .high * 2 ^ 64 + s .args .low) (s .args .count)
 
--- what `reached` said of the answer
-held : (c : tie.After-reached) → dueOf (c .reached .result) (answer (c .before)) ≡ from (c .before .args .now) (c .before .args .t +ℤ pos (c .before .args .d)) (answer (c .before))
-held c =
-    let ft = c .before .fits .t in
-    let fn = c .before .fits .now in
-    simp toZ-ofZ at (c .reached .ensures (answer (c .before)))
-
-until-fits : (c : tie.After-known-told) → SFits w64 (c .before .until .given .0 .0)
-until-fits c = search needs
+expo-fits : (c : tie.After-struct-told) → SFits w8 (c .before .before .before .before .args .p .expo)
+expo-fits c = search needs
 
 reached-requires : tie.Need-reached-requires
 reached-requires c κs = search needs
@@ -33,26 +25,38 @@ enum-told c = search needs
 settle-requires : tie.Need-settle-requires
 settle-requires c κs = search needs
 
-enum-known-until : tie.Need-enum-known-until
-enum-known-until c = search needs
+due-fits : (c : tie.After-known-told) → SFits w64 (c .before .due .given .0 .0)
+due-fits c = search needs
+
+enum-known-due : tie.Need-enum-known-due
+enum-known-due c = search needs
 
 enum-told-2 : tie.Need-enum-told-2
 enum-told-2 c = search needs
 
 returns : tie.Need-returns
 returns c =
-    let told = c .before in
-    let due = told .before .before in
-    let fe = due .before .fits .expo in
-    _∙_ {b = answer (due .before)} (simp toZ-ofZ at (c .settle .ensures)) (rw (told .enum-told .given .1) at (held due))
+    let told = c .before .before in
+    let call = told .before .before in
+    let s = call .before in
+    let a = s .args in
+    settled (a .p .expo) (expo-fits (c .before)) (methodOf (a .method)) (a .high * 2 ^ 64 + a .low) (a .count) (decisionOf (c .settle .result)) (c .settle .ensures)
+    ∙ comes (a .t) (a .now) (a .p .«challenge_delay_s») (answer s) (s .fits .t) (s .fits .now) (call .reached .result) (told .enum-told .given .1) (call .reached .ensures (answer s))
 
 returns-2 : tie.Need-returns-2
 returns-2 c =
-    let fu = until-fits c in
-    rw toZ-ofZ (rw (c .before .until .given .1) at (held (c .before .before .before)))
+    let k = c .before in
+    let call = k .before .before in
+    let s = call .before in
+    let a = s .args in
+    waits (a .t) (a .now) (a .p .«challenge_delay_s») (answer s) (s .fits .t) (s .fits .now) (call .reached .result) (k .due .given .0 .0) (due-fits c) (k .due .given .1) (call .reached .ensures (answer s))
 
 returns-3 : tie.Need-returns-3
-returns-3 c = rw (c .enum-told2 .given .1) at (held (c .before .before))
+returns-3 c =
+    let call = c .before .before in
+    let s = call .before in
+    let a = s .args in
+    over (a .t) (a .now) (a .p .«challenge_delay_s») (answer s) (s .fits .t) (s .fits .now) (call .reached .result) (c .enum-told2 .given .1) (call .reached .ensures (answer s))
 
 pub settle-from-spec : {M : Type 1} → statement M
 settle-from-spec =
@@ -61,7 +65,7 @@ settle-from-spec =
     reached-requires
     enum-told
     settle-requires
-    enum-known-until
+    enum-known-due
     enum-told-2
     returns
     returns-2

@@ -1,30 +1,19 @@
-use mathlib.Core.Path.{_≡_}
-use lib.IntN.{pos, _+ℤ_}
 use mir.Syntax.{w64}
 use mir.Val.{SFits}
-use mir.Facts.{toZ-ofZ}
 use borrow.Author.Needs.{needs}
 use Rattle.rules.specs.Answers.{Answer}
-use Rattle.rules.specs.Decision.{from}
-use Rattle.core_decide.specs.Decisions.{dueOf}
+use Rattle.core_decide.proofs.Steps.{comes, waits, over}
 use Rattle.core_decide.proofs.decide.void_from.Statement.{statement}
 use Rattle.core_decide.proofs.decide.void_from.Tie as tie
-
--- what `reached` said of the answer
-held : (c : tie.After-reached) → dueOf (c .reached .result) Answer.Void ≡ from (c .before .args .now) (c .before .args .t +ℤ pos (c .before .args .d)) Answer.Void
-held c =
-    let ft = c .before .fits .t in
-    let fn = c .before .fits .now in
-    simp toZ-ofZ at (c .reached .ensures Answer.Void)
-
-until-fits : (c : tie.After-known-told) → SFits w64 (c .before .until .given .0 .0)
-until-fits c = search needs
 
 reached-requires : tie.Need-reached-requires
 reached-requires c κs = search needs
 
 enum-told : tie.Need-enum-told
 enum-told c = search needs
+
+until-fits : (c : tie.After-known-told) → SFits w64 (c .before .until .given .0 .0)
+until-fits c = search needs
 
 enum-known-until : tie.Need-enum-known-until
 enum-known-until c = search needs
@@ -33,17 +22,27 @@ enum-told-2 : tie.Need-enum-told-2
 enum-told-2 c = search needs
 
 returns : tie.Need-returns
-returns c = rw (c .enum-told .given .1) at (held (c .before .before))
+returns c =
+    let call = c .before .before in
+    let s = call .before in
+    let a = s .args in
+    comes (a .t) (a .now) (a .p .«challenge_delay_s») Answer.Void (s .fits .t) (s .fits .now) (call .reached .result) (c .enum-told .given .1) (call .reached .ensures Answer.Void)
 
 returns-2 : tie.Need-returns-2
 returns-2 c =
-    let fu = until-fits c in
-    rw toZ-ofZ (rw (c .before .until .given .1) at (held (c .before .before .before)))
+    let k = c .before in
+    let call = k .before .before in
+    let s = call .before in
+    let a = s .args in
+    waits (a .t) (a .now) (a .p .«challenge_delay_s») Answer.Void (s .fits .t) (s .fits .now) (call .reached .result) (k .until .given .0 .0) (until-fits c) (k .until .given .1) (call .reached .ensures Answer.Void)
 
 returns-3 : tie.Need-returns-3
-returns-3 c = rw (c .enum-told2 .given .1) at (held (c .before .before))
+returns-3 c =
+    let call = c .before .before in
+    let s = call .before in
+    let a = s .args in
+    over (a .t) (a .now) (a .p .«challenge_delay_s») Answer.Void (s .fits .t) (s .fits .now) (call .reached .result) (c .enum-told2 .given .1) (call .reached .ensures Answer.Void)
 
 pub void-from-spec : {M : Type 1} → statement M
 void-from-spec =
-    tie.close
-    (tie.spec reached-requires enum-told enum-known-until enum-told-2 returns returns-2 returns-3)
+    tie.close (tie.spec reached-requires enum-told enum-known-until enum-told-2 returns returns-2 returns-3)
