@@ -1,36 +1,22 @@
 // Replays recorded answers of the Rust core, from standard input (trials/README.md has the format),
 // and prints for each call how many there are and how many the core answers otherwise.
-mod fields;
+ghost use Prim.Native.Nat.{_≤_};
+
+mod given;
 mod replay;
 mod tally;
 
+use fields::read::u32_at;
+use fields::read::u64_at;
 use libc::STDIN_FILENO;
 use libc::STDOUT_FILENO;
-use tally::Tally;
-
-// What standard input starts with.
-enum Start {
-    Records(u32),
-    Unknown,
-}
-
-// What comes next on standard input.
-enum Next {
-    Answer { tag: u8, is_same: bool },
-    Short,
-    Unknown,
-}
-
-// Reads n bytes to the front of b, and says whether there are so many.
-fn fill(b: &mut [u8], n: usize) -> bool {
-    if b.len() < n {
-        return false;
-    }
-    io::read_full(STDIN_FILENO, &mut b[..n]) == n
-}
+use tally::PLACES;
+use tally::RECORD;
 
 // The width of a record after its tag; 0 for a tag that there is not.
-fn width(tag: u8) -> usize {
+fn width(tag: u8) -> usize
+    ensures { λ r. ⌜ r ≤ 352 ⌝ }
+{
     match tag {
         1 => 30,
         2 => 64,
@@ -45,88 +31,87 @@ fn width(tag: u8) -> usize {
 }
 
 // Whether the core answers as the record says.
-fn is_same(tag: u8, b: &[u8; 352]) -> bool {
+fn is_same(tag: u8, b: &[u8]) -> bool {
     match tag {
         1 => replay::mean(b),
         2 => replay::accept(b),
-        3 => replay::restore(b),
-        4 => replay::add_print(b),
-        5 => replay::decide(b),
         6 => replay::params(b),
         7 => replay::print(b),
         8 => replay::method(b),
-        _ => false,
+        _ => replay::on_state(tag, b),
     }
 }
 
-fn next_record() -> Next {
-    let mut b = [0u8; 352];
-    if !fill(&mut b, 1) {
-        return Next::Short;
+// Replays the record of this tag, which is as long as the space for it, and says whether it is
+// there.
+fn record(tag: u8, b: &mut [u8], t: &mut [u64; PLACES]) -> bool {
+    let n = b.len();
+    if io::read_full(STDIN_FILENO, b) != n {
+        return false;
     }
-    let tag = b[0];
-    let n = width(tag);
-    if n == 0 {
-        return Next::Unknown;
-    }
-    if !fill(&mut b, n) {
-        return Next::Short;
-    }
-    Next::Answer {
-        tag: tag,
-        is_same: is_same(tag, &b),
-    }
-}
-
-// The number of records, which stands after the eight bytes that every sample starts with.
-fn header() -> Start {
-    let mut b = [0u8; 352];
-    if !fill(&mut b, 12) {
-        return Start::Unknown;
-    }
-    // LFCORE01
-    if fields::u64_at(&b, 0) != 0x3130_4552_4f43_464c {
-        return Start::Unknown;
-    }
-    Start::Records(fields::u32_at(&b, 8))
-}
-
-// Replays n records, and says whether there were so many.
-fn replay_all(n: u32) -> bool {
-    let mut t = Tally::new();
-    let mut i: u32 = 0;
-    while i < n {
-        i += 1;
-        match next_record() {
-            Next::Answer { tag, is_same } => {
-                t = t.with(tag, is_same, i);
-            }
-            Next::Short => {
-                t.print();
-                tally::say(b"the sample is short at record ", i);
-                return false;
-            }
-            Next::Unknown => {
-                t.print();
-                tally::say(b"the sample is damaged at record ", i);
-                return false;
-            }
-        }
-    }
-    t.print();
+    tally::answer(t, tag, is_same(tag, b));
     true
 }
 
-fn main() {
-    let Start::Records(n) = header() else {
-        io::write_all(STDOUT_FILENO, b"not a sample\n");
-        return;
-    };
-    if !replay_all(n) {
-        return;
+fn tagged(tag: u8, t: &mut [u64; PLACES]) -> bool {
+    let n = width(tag);
+    if n == 0 {
+        return false;
+    }
+    let mut b = [0u8; 352];
+    record(tag, &mut b[..n], t)
+}
+
+fn next_record(t: &mut [u64; PLACES]) -> bool {
+    let mut b = [0u8; 1];
+    if io::read_full(STDIN_FILENO, &mut b) == 0 {
+        return false;
+    }
+    tagged(b[0], t)
+}
+
+// Replays n records, and says whether there are so many and no bytes behind them.
+fn replay_all(n: u64, t: &mut [u64; PLACES]) -> bool {
+    let mut i: u64 = 0;
+    while i < n {
+        i += 1;
+        t[RECORD] = i;
+        if !next_record(t) {
+            return false;
+        }
     }
     let mut b = [0u8; 1];
-    if fill(&mut b, 1) {
-        io::write_all(STDOUT_FILENO, b"there are bytes after the last record\n");
+    io::read_full(STDIN_FILENO, &mut b) == 0
+}
+
+// The number of records, which stands after the eight bytes that every sample starts with; 0 where
+// they do not stand there.
+fn header() -> u64 {
+    let mut b = [0u8; 12];
+    if io::read_full(STDIN_FILENO, &mut b) != 12 {
+        return 0;
+    }
+    // LFCORE01
+    if u64_at(&b, 0) != 0x3130_4552_4f43_464c {
+        return 0;
+    }
+    u32_at(&b, 8) as u64
+}
+
+fn main() {
+    let n = header();
+    if n == 0 {
+        io::write_all(STDOUT_FILENO, b"not a sample\n");
+        return;
+    }
+    let mut t = [0u64; PLACES];
+    let is_whole = replay_all(n, &mut t);
+    tally::print_all(&t);
+    if !is_whole {
+        tally::print(
+            b"the sample is short, damaged or too long at record #\n",
+            &t,
+            RECORD,
+        );
     }
 }

@@ -1,71 +1,74 @@
-// How many answers were replayed and how many differ, by the record's tag, and what is printed of it.
+// How many answers were replayed and how many differ, and what is printed of it. A tally is one
+// array, which is lent: for each tag the answers and those of them that differ, then the numbers at
+// the places below.
 ghost use Prim.Native.Nat.{_<_};
 use libc::STDOUT_FILENO;
 
-pub(crate) struct Tally {
-    replayed: [u32; 9],
-    different: [u32; 9],
-    // The number of the first record that differs, from 1; 0 for none.
-    first: u32,
-}
+pub(crate) const PLACES: usize = 20;
 
-fn one_more(n: u32) -> u32 {
-    if n == u32::MAX { n } else { n + 1 }
-}
+// The number of the record at hand, from 1.
+pub(crate) const RECORD: usize = 18;
 
-impl Tally {
-    pub(crate) fn new() -> Tally {
-        Tally {
-            replayed: [0; 9],
-            different: [0; 9],
-            first: 0,
-        }
-    }
+// The number of the first record that differs; 0 for none.
+const FIRST: usize = 19;
 
-    // With the record of this number.
-    pub(crate) fn with(self, tag: u8, is_same: bool, number: u32) -> Tally {
-        let at = tag as usize;
-        if 8 < at {
-            return self;
-        }
-        let mut t = self;
-        t.replayed[at] = one_more(t.replayed[at]);
-        if is_same {
-            return t;
-        }
-        t.different[at] = one_more(t.different[at]);
-        if t.first == 0 {
-            t.first = number;
-        }
-        t
-    }
-
-    fn line(self, name: &[u8], at: usize)
-        requires { ⌜ at < 9 ⌝ }
-    {
-        io::write_all(STDOUT_FILENO, name);
-        io::print_decimal(STDOUT_FILENO, self.replayed[at] as u64);
-        say(b" different ", self.different[at]);
-    }
-
-    pub(crate) fn print(self) {
-        self.line(b"mean ", 1);
-        self.line(b"accept ", 2);
-        self.line(b"restore ", 3);
-        self.line(b"add_print ", 4);
-        self.line(b"decide ", 5);
-        self.line(b"params ", 6);
-        self.line(b"print ", 7);
-        self.line(b"method ", 8);
-        if self.first != 0 {
-            say(b"the first that differs is record ", self.first);
-        }
+fn count(t: &mut [u64; PLACES], at: usize)
+    requires { ⌜ at < 20 ⌝ }
+{
+    let n = t[at];
+    if n < u64::MAX {
+        t[at] = n + 1;
     }
 }
 
-// A text, a number and a line's end.
-pub(crate) fn say(text: &[u8], n: u32) {
-    io::write_all(STDOUT_FILENO, text);
-    io::print_decimal(STDOUT_FILENO, n as u64);
-    io::write_all(STDOUT_FILENO, b"\n");
+pub(crate) fn answer(t: &mut [u64; PLACES], tag: u8, is_same: bool) {
+    if 8 < tag {
+        return;
+    }
+    let at = tag as usize * 2;
+    count(t, at);
+    if is_same {
+        return;
+    }
+    count(t, at + 1);
+    if t[FIRST] == 0 {
+        t[FIRST] = t[RECORD];
+    }
+}
+
+// Writes a byte, or for # the number at this place, and answers the place whose number is next.
+fn put(byte: u8, t: &[u64; PLACES], at: usize) -> usize {
+    if byte != b'#' {
+        let one = [byte];
+        io::write_all(STDOUT_FILENO, &one);
+        return at;
+    }
+    if PLACES <= at {
+        return at;
+    }
+    io::print_decimal(STDOUT_FILENO, t[at]);
+    at + 1
+}
+
+// Writes a text with the numbers from this place on.
+pub(crate) fn print(text: &[u8], t: &[u64; PLACES], first: usize) {
+    let mut at = first;
+    let mut i: usize = 0;
+    while i < text.len() {
+        at = put(text[i], t, at);
+        i += 1;
+    }
+}
+
+pub(crate) fn print_all(t: &[u64; PLACES]) {
+    print(
+        b"mean # different #\naccept # different #\nrestore # different #\n\
+          add_print # different #\ndecide # different #\nparams # different #\n\
+          print # different #\nmethod # different #\n",
+        t,
+        2,
+    );
+    if t[FIRST] != 0 {
+        print(b"the first that differs is record #\n", t, FIRST);
+    }
 }
