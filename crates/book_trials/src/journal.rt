@@ -1,18 +1,16 @@
 // One journal: a book, the commands given to it, and the book that they must leave.
 ghost use Prim.Native.Nat.{_≤_};
-use crate::input::Byte;
-use crate::input::Number;
-use crate::input::Read;
-use crate::input::all_records;
+ghost use lib.ListN.{length};
 use crate::input::fill;
-use crate::input::next_byte;
-use crate::input::next_u16;
-use crate::input::next_u32;
+use crate::input::next;
+use crate::input::records;
 use crate::recorded;
-use crate::recorded::Found;
+use crate::recorded::ANSWER;
 use crate::tally;
+use crate::tally::COMMAND;
 use crate::tally::PLACES;
 use commands::apply::apply;
+use fields::read::u8_at;
 
 // The most bytes of a book, commands of a journal and bytes of an entry that a sample has.
 const LONGEST: usize = 25_600;
@@ -21,109 +19,82 @@ const MOST_COMMANDS: u64 = 64;
 
 const LONGEST_ENTRY: usize = 60;
 
-// Compares the answer to the entry with the one that comes next.
-fn answered(book: &mut [u8], entry: &[u8], t: &mut [u32; PLACES]) -> Read {
-    let Found::Of(expected) = recorded::next() else {
-        return Read::Short;
-    };
-    let a = recorded::of_answer(apply(book, entry));
-    tally::answer(t, a.code, recorded::is_same(a, expected));
-    Read::Whole
-}
-
-// Reads the entry that comes next, which is as long as the space for it.
-fn given(book: &mut [u8], entry: &mut [u8], t: &mut [u32; PLACES]) -> Read {
-    if !fill(entry) {
-        return Read::Short;
+// Compares the answer to the first n bytes of b, an entry, with the one behind them. Both are read
+// first: b is as long as they are.
+fn answered(book: &mut [u8], b: &mut [u8], n: usize, t: &mut [u64; PLACES]) -> bool
+    requires { ⌜ n ≤ length (now b) ⌝ }
+{
+    if !fill(b) {
+        return false;
     }
-    answered(book, &entry[..], t)
+    let a = apply(book, &b[..n]);
+    let code = u8_at(b, n);
+    tally::answer(t, code, recorded::is_answer(&b[n..], a));
+    true
 }
 
-fn command(book: &mut [u8], t: &mut [u32; PLACES]) -> Read {
-    let Byte::Of(length) = next_byte() else {
-        return Read::Short;
-    };
+fn command(book: &mut [u8], t: &mut [u64; PLACES]) -> bool {
+    let length = next(1);
+    if (LONGEST_ENTRY as u64) < length {
+        return false;
+    }
     let n = length as usize;
-    if LONGEST_ENTRY < n {
-        return Read::Damaged;
-    }
-    let mut entry = [0u8; LONGEST_ENTRY];
-    given(book, &mut entry[..n], t)
+    let mut b = [0u8; LONGEST_ENTRY + ANSWER];
+    answered(book, &mut b[..n + ANSWER], n, t)
 }
 
-// The n commands that come next.
-fn commands(book: &mut [u8], t: &mut [u32; PLACES], n: u64) -> Read {
+// Gives the commands that come next to the book, and says whether they are there.
+fn commands(book: &mut [u8], t: &mut [u64; PLACES]) -> bool {
+    let n = next(2);
+    if MOST_COMMANDS < n {
+        return false;
+    }
     let mut i: u64 = 0;
     while i < n {
         i += 1;
-        let r = command(book, t);
-        let Read::Whole = r else {
-            return r;
-        };
-    }
-    Read::Whole
-}
-
-fn all_commands(book: &mut [u8], t: &mut [u32; PLACES]) -> Read {
-    let Number::Of(n) = next_u16() else {
-        return Read::Short;
-    };
-    if MOST_COMMANDS < n {
-        return Read::Damaged;
-    }
-    commands(book, t, n)
-}
-
-// Leaves in end the book that must be left in book. Both are zero before.
-fn replay_on(book: &mut [u8], end: &mut [u8], t: &mut [u32; PLACES]) -> Read {
-    let start = all_records(book);
-    let Read::Whole = start else {
-        return start;
-    };
-    let middle = all_commands(book, t);
-    let Read::Whole = middle else {
-        return middle;
-    };
-    all_records(end)
-}
-
-// Only the front of the two was lent: behind it both are zero.
-fn is_same(a: &[u8; LONGEST], b: &[u8; LONGEST]) -> bool {
-    let mut i: usize = 0;
-    while i < LONGEST {
-        if a[i] != b[i] {
+        t[COMMAND] = i;
+        if !command(book, t) {
             return false;
         }
-        i += 1;
     }
     true
 }
 
-// A journal whose book has n bytes.
-fn replay_with(n: usize, t: &mut [u32; PLACES]) -> Read
-    requires { ⌜ n ≤ 25600 ⌝ }
-{
-    let mut book = [0u8; LONGEST];
-    let mut end = [0u8; LONGEST];
-    let r = replay_on(&mut book[..n], &mut end[..n], t);
-    let Read::Whole = r else {
-        return r;
-    };
-    if !is_same(&book, &end) {
-        tally::different_book(t);
+// Compares the book that was left with the one that must be left.
+fn compare(book: &[u8], end: &[u8], t: &mut [u64; PLACES]) {
+    let mut i: usize = 0;
+    while i < book.len() {
+        if book[i] != u8_at(end, i) {
+            tally::different_book(t);
+            return;
+        }
+        i += 1;
     }
-    Read::Whole
 }
 
-// Replays the journal that comes next.
-pub(crate) fn replay(t: &mut [u32; PLACES]) -> Read {
-    tally::journal(t);
-    let Number::Of(length) = next_u32() else {
-        return Read::Short;
-    };
-    let n = length as usize;
-    if LONGEST < n {
-        return Read::Damaged;
+// Both are zero before, and as long as each other.
+fn replay_on(book: &mut [u8], end: &mut [u8], t: &mut [u64; PLACES]) -> bool {
+    if !records(book) {
+        return false;
     }
-    replay_with(n, t)
+    if !commands(book, t) {
+        return false;
+    }
+    if !records(end) {
+        return false;
+    }
+    compare(book, end, t);
+    true
+}
+
+// Replays the journal that comes next, and says whether it is there.
+pub(crate) fn replay(t: &mut [u64; PLACES]) -> bool {
+    let length = next(4);
+    if (LONGEST as u64) < length {
+        return false;
+    }
+    let n = length as usize;
+    let mut book = [0u8; LONGEST];
+    let mut end = [0u8; LONGEST];
+    replay_on(&mut book[..n], &mut end[..n], t)
 }

@@ -6,62 +6,49 @@ mod journal;
 mod recorded;
 mod tally;
 
-use input::Byte;
-use input::Number;
-use input::Read;
+use fields::read::u32_at;
+use fields::read::u64_at;
 use libc::STDOUT_FILENO;
+use tally::JOURNAL;
 use tally::PLACES;
 
-// The number of journals, which stands after the eight bytes that every sample starts with.
-fn header() -> Number {
-    let Number::Of(name) = input::next_u64() else {
-        return Number::End;
-    };
-    // LFBOOK01
-    if name != 0x3130_4b4f_4f42_464c {
-        return Number::End;
+// The number of journals, which stands after the eight bytes that every sample starts with; 0 where
+// they do not stand there.
+fn header() -> u64 {
+    let mut b = [0u8; 12];
+    if !input::fill(&mut b) {
+        return 0;
     }
-    input::next_u32()
+    // LFBOOK01
+    if u64_at(&b, 0) != 0x3130_4b4f_4f42_464c {
+        return 0;
+    }
+    u32_at(&b, 8) as u64
 }
 
-// Replays n journals, or as many as are whole.
-fn replay_all(n: u64, t: &mut [u32; PLACES]) -> Read {
+// Replays n journals, and says whether there are so many and no bytes behind them.
+fn replay_all(n: u64, t: &mut [u64; PLACES]) -> bool {
     let mut i: u64 = 0;
     while i < n {
         i += 1;
-        let r = journal::replay(t);
-        let Read::Whole = r else {
-            return r;
-        };
-    }
-    Read::Whole
-}
-
-fn print_end(r: Read, t: &[u32; PLACES]) {
-    match r {
-        Read::Whole => {
-            if let Byte::Of(_) = input::next_byte() {
-                io::write_all(STDOUT_FILENO, b"there are bytes after the last journal\n");
-            }
-        }
-        Read::Short => {
-            io::write_all(STDOUT_FILENO, b"the sample is short");
-            tally::print_place(t);
-        }
-        Read::Damaged => {
-            io::write_all(STDOUT_FILENO, b"the sample is damaged");
-            tally::print_place(t);
+        t[JOURNAL] = i;
+        if !journal::replay(t) {
+            return false;
         }
     }
+    255 < input::next(1)
 }
 
 fn main() {
-    let Number::Of(n) = header() else {
+    let n = header();
+    if n == 0 {
         io::write_all(STDOUT_FILENO, b"not a sample\n");
         return;
-    };
-    let mut t = [0u32; PLACES];
-    let r = replay_all(n, &mut t);
-    tally::print(&t);
-    print_end(r, &t);
+    }
+    let mut t = [0u64; PLACES];
+    let is_whole = replay_all(n, &mut t);
+    tally::print_all(&t);
+    if !is_whole {
+        tally::print_stop(&t);
+    }
 }

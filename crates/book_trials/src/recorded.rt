@@ -1,32 +1,18 @@
 // An answer as a sample records it: a code and three numbers.
-use crate::input::Byte;
-use crate::input::Number;
-use crate::input::next_byte;
-use crate::input::next_u64;
 use answers::answer::Answer;
 use core_take::take::Index;
-use core_take::take::PrintUse;
+use fields::read::i64_at;
+use fields::read::u8_at;
+use fields::read::u64_at;
 
-pub(crate) struct Recorded {
-    pub(crate) code: u8,
-    first: u64,
-    second: u64,
-    third: u64,
-}
+// The bytes of an answer.
+pub(crate) const ANSWER: usize = 25;
 
-// The answer that comes next in the sample, if there is one.
-pub(crate) enum Found {
-    Of(Recorded),
-    End,
-}
-
-fn with(code: u8, first: u64, second: u64, third: u64) -> Recorded {
-    Recorded {
-        code: code,
-        first: first,
-        second: second,
-        third: third,
-    }
+fn is(b: &[u8], code: u8, first: u64, second: u64, third: u64) -> bool {
+    (u8_at(b, 0) == code)
+        & (u64_at(b, 1) == first)
+        & (u64_at(b, 9) == second)
+        & (u64_at(b, 17) == third)
 }
 
 fn place(i: Index) -> u64 {
@@ -36,52 +22,23 @@ fn place(i: Index) -> u64 {
     }
 }
 
-fn of_use(u: PrintUse) -> Recorded {
-    let slot = u.slot;
-    let link = u.next_print;
-    with(254, place(slot), place(link), u.fallback as u64)
-}
-
-// A refusal has no code of another answer: 250 is none.
-fn of_refusal(n: u8) -> Recorded {
-    if 250 < n {
-        return with(250, 0, 0, 0);
-    }
-    with(n, 0, 0, 0)
-}
-
-// A number that the answer does not have is zero.
-pub(crate) fn of_answer(a: Answer) -> Recorded {
+// Whether the answer is the one in b. A number that it does not have is zero, and a refusal has no
+// code of another answer.
+pub(crate) fn is_answer(b: &[u8], a: Answer) -> bool {
     match a {
-        Answer::Opened => with(255, 0, 0, 0),
-        Answer::Used(u) => of_use(u),
-        Answer::Wait { until } => with(253, endian::i64_to_bits(until), 0, 0),
+        Answer::Opened => is(b, 255, 0, 0, 0),
+        Answer::Used(u) => {
+            let slot = u.slot;
+            let link = u.next_print;
+            is(b, 254, place(slot), place(link), u.fallback as u64)
+        }
+        Answer::Wait { until } => (i64_at(b, 1) == until) & is(b, 253, u64_at(b, 1), 0, 0),
         Answer::Settle {
             method,
             price,
             samples,
-        } => with(252, method.number() as u64, price.get(), samples as u64),
-        Answer::Void => with(251, 0, 0, 0),
-        Answer::Refused(n) => of_refusal(n),
+        } => is(b, 252, method.number() as u64, price.get(), samples as u64),
+        Answer::Void => is(b, 251, 0, 0, 0),
+        Answer::Refused(n) => (n <= 250) & is(b, n, 0, 0, 0),
     }
-}
-
-pub(crate) fn next() -> Found {
-    let Byte::Of(code) = next_byte() else {
-        return Found::End;
-    };
-    let Number::Of(first) = next_u64() else {
-        return Found::End;
-    };
-    let Number::Of(second) = next_u64() else {
-        return Found::End;
-    };
-    let Number::Of(third) = next_u64() else {
-        return Found::End;
-    };
-    Found::Of(with(code, first, second, third))
-}
-
-pub(crate) fn is_same(a: Recorded, b: Recorded) -> bool {
-    a.code == b.code && a.first == b.first && a.second == b.second && a.third == b.third
 }

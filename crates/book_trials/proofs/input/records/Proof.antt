@@ -1,7 +1,7 @@
 -- `book_trials::input::records` is safe and ends. The measure is the number of records that are left; the book keeps its length.
-use Prim.Native.Nat.{_-_}
 use mathlib.Core.Path.{_≡_}
 use lib.ListN.{length}
+use Prim.Native.Nat.{_-_}
 use borrow.Author.Needs.{needs}
 use Rattle.book_trials.proofs.input.records.Statement.{statement}
 use Rattle.book_trials.proofs.input.records.Tie as tie
@@ -12,6 +12,12 @@ Inv-loop book₀ n i₀ book i = length book ≡ length book₀
 abbrev μ-loop : tie.MeasureT-loop
 μ-loop book₀ n i₀ book i = n - i
 
+next-requires : tie.Need-next-requires Inv-loop μ-loop
+next-requires c κs = search needs
+
+returns : tie.Need-returns Inv-loop μ-loop
+returns c = search needs
+
 loop-holds : tie.Need-loop-holds Inv-loop μ-loop
 loop-holds c = search needs
 
@@ -21,8 +27,11 @@ add-i c = search needs
 record-requires : tie.Need-record-requires Inv-loop μ-loop
 record-requires c κs = search needs
 
-enum-told : tie.Need-enum-told Inv-loop μ-loop
-enum-told c = search needs
+same-length : tie.Need-same-length Inv-loop μ-loop
+same-length c = search needs
+
+returns-2 : tie.Need-returns-2 Inv-loop μ-loop
+returns-2 c = search needs
 
 loop-less : tie.Need-loop-less Inv-loop μ-loop
 loop-less c = search needs
@@ -30,17 +39,11 @@ loop-less c = search needs
 loop-again : tie.Need-loop-again Inv-loop μ-loop
 loop-again c = search needs
 
-same-length : tie.Need-same-length Inv-loop μ-loop
-same-length c = search needs
-
-returns : tie.Need-returns Inv-loop μ-loop
-returns c = search needs
-
 same-length-2 : tie.Need-same-length-2 Inv-loop μ-loop
 same-length-2 c = search needs
 
-returns-2 : tie.Need-returns-2 Inv-loop μ-loop
-returns-2 c = search needs
+returns-3 : tie.Need-returns-3 Inv-loop μ-loop
+returns-3 c = search needs
 
 pub records-spec : {M : Type 1} → statement M
 records-spec =
@@ -48,13 +51,14 @@ records-spec =
     (tie.spec
     Inv-loop
     μ-loop
+    next-requires
+    returns
     loop-holds
     add-i
     record-requires
-    enum-told
+    same-length
+    returns-2
     loop-less
     loop-again
-    same-length
-    returns
     same-length-2
-    returns-2)
+    returns-3)

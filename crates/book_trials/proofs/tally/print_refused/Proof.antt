@@ -5,16 +5,16 @@ use Rattle.book_trials.proofs.tally.print_refused.Statement.{statement}
 use Rattle.book_trials.proofs.tally.print_refused.Tie as tie
 
 abbrev Inv-loop : tie.InvT-loop
-Inv-loop t i₀ t4 t5 i = Unit
+Inv-loop t i₀ t5 i = Unit
 
 abbrev μ-loop : tie.MeasureT-loop
-μ-loop t i₀ t4 t5 i = 251 - i
+μ-loop t i₀ t5 i = 251 - i
 
 loop-holds : tie.Need-loop-holds Inv-loop μ-loop
 loop-holds c = search needs
 
-cast-n : tie.Need-cast-n Inv-loop μ-loop
-cast-n c = search needs
+sub-n : tie.Need-sub-n Inv-loop μ-loop
+sub-n c = search needs
 
 mul-n : tie.Need-mul-n Inv-loop μ-loop
 mul-n c = search needs
@@ -22,17 +22,14 @@ mul-n c = search needs
 element-copy-out-n : tie.Need-element-copy-out-n Inv-loop μ-loop
 element-copy-out-n c = search needs
 
-slice-aggregate-put : tie.Need-slice-aggregate-put Inv-loop μ-loop
-slice-aggregate-put c = search needs
+slice-aggregate-print : tie.Need-slice-aggregate-print Inv-loop μ-loop
+slice-aggregate-print c = search needs
 
-put-requires : tie.Need-put-requires Inv-loop μ-loop
-put-requires c κs = search needs
+slice-aggregate-print-2 : tie.Need-slice-aggregate-print-2 Inv-loop μ-loop
+slice-aggregate-print-2 c = search needs
 
-slice-aggregate-line : tie.Need-slice-aggregate-line Inv-loop μ-loop
-slice-aggregate-line c = search needs
-
-line-requires : tie.Need-line-requires Inv-loop μ-loop
-line-requires c κs = search needs
+print-requires : tie.Need-print-requires Inv-loop μ-loop
+print-requires c κs = search needs
 
 add-i : tie.Need-add-i Inv-loop μ-loop
 add-i c = search needs
@@ -53,13 +50,12 @@ print-refused-spec =
     Inv-loop
     μ-loop
     loop-holds
-    cast-n
+    sub-n
     mul-n
     element-copy-out-n
-    slice-aggregate-put
-    put-requires
-    slice-aggregate-line
-    line-requires
+    slice-aggregate-print
+    slice-aggregate-print-2
+    print-requires
     add-i
     loop-less
     loop-again
