@@ -1,7 +1,8 @@
 use mathlib.Core.Path.{refl, ap, _∙_}
 use native.Mathlib.Omega.{arith}
 use mir.Facts.{toZ-ofZ}
-use Rattle.book.proofs.Looks.{allowed-book}
+use Rattle.record_test.specs.Statuses.{decisionIn}
+use Rattle.book.proofs.Looks.{partAt, allowed-book}
 use Rattle.answers.specs.Commands.{bookAnswer}
 use Rattle.answers.proofs.Commands.{may-look, part-decided}
 use Rattle.fixings.proofs.Fixes.{asked}
@@ -37,7 +38,7 @@ returns c =
     let a = c .before .before .before .before .args in
     let f = c .before .before .before .before .fits .now in
     c .of-result .ensures
-    ∙ ap bookAnswer ((simp toZ-ofZ at (c .before .decide-in .ensures)) ∙ part-decided (a .book .now) (a .series) (c .before .before .before .before .pre) (a .now))
+    ∙ ap bookAnswer (c .before .decide-in .ensures ∙ ap (decisionIn (partAt (a .series) (a .book .now))) (toZ-ofZ f) ∙ part-decided (a .book .now) (a .series) (c .before .before .before .before .pre) (a .now))
     ∙ asked (a .book .now) (a .series) (c .before .before .before .before .pre) (a .now) refl
 
 pub ask-open-spec : {M : Type 1} → statement M

@@ -6,8 +6,9 @@ use Rattle.rules.specs.Record.{openingIn, partsIn}
 use Rattle.rules.specs.Book.{recordAt}
 use Rattle.core_terms.specs.Errors.{numberOf}
 use Rattle.core_decide.specs.Decisions.{decisionOf}
+use Rattle.record_test.specs.Statuses.{decisionIn}
 use Rattle.core_parts.proofs.Places.{passed, failed}
-use Rattle.book.proofs.Looks.{allowed-book}
+use Rattle.book.proofs.Looks.{partAt, allowed-book}
 use Rattle.answers.specs.Commands.{bookAnswer}
 use Rattle.answers.proofs.Commands.{may-look, part-decided}
 use Rattle.fixings.proofs.Fixes.{fix-turned, fix-pending, fix-made}
@@ -54,7 +55,7 @@ called : (c : tie.After-decide-in)
 called c =
     let a = c .before .before .before .before .args in
     let f = c .before .before .before .before .fits .now in
-    sym ((simp toZ-ofZ at (c .decide-in .ensures)) ∙ part-decided (a .book .now) (a .series) (c .before .before .before .before .pre) (a .now))
+    sym (c .decide-in .ensures ∙ ap (decisionIn (partAt (a .series) (a .book .now))) (toZ-ofZ f) ∙ part-decided (a .book .now) (a .series) (c .before .before .before .before .pre) (a .now))
 
 returns : tie.Need-returns
 returns c =
