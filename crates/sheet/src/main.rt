@@ -42,12 +42,20 @@ enum Next {
     Failed,
 }
 
-// Says on standard error what failed, and where in the journal.
+// Says on standard error what failed, and after which byte of the journal.
 fn fail(what: &[u8], read: u64) {
     io::write_all(STDERR_FILENO, what);
-    io::write_all(STDERR_FILENO, b" after byte ");
     io::print_decimal(STDERR_FILENO, read);
     io::write_all(STDERR_FILENO, b" of the journal\n");
+}
+
+// Writes the lines, and says whether that went well.
+fn write(lines: &[u8], read: u64) -> bool {
+    if io::write_all(STDOUT_FILENO, lines) {
+        return true;
+    }
+    fail(b"sheet: cannot write standard output after byte ", read);
+    false
 }
 
 // The sum, which stops at the greatest u64.
@@ -90,6 +98,36 @@ fn give(book: &mut [u8], part: &mut [u8], end: usize, last: bool, out: &mut [u8]
     }
 }
 
+// Gives the n bytes behind the held ones to the book, and writes their lines.
+fn hand_on(
+    book: &mut [u8],
+    part: &mut [u8],
+    out: &mut [u8],
+    held: usize,
+    n: usize,
+    read: u64,
+) -> Next
+    requires { ⌜ held + n ≤ length (now part) ⌝ }
+    requires { ⌜ 65536 ≡ length (now part) ⌝ }
+    requires { ⌜ 655360 ≡ length (now out) ⌝ }
+    ensures { λ r. ⌜ GoesOn r (now (book .entry)) (now (part .entry)) held read (now (book .exit)) (now (part .exit)) ⌝ }
+{
+    let end = held + n;
+    let left = give(book, part, end, n == 0, out);
+    let written = left.written;
+    let after = plus(read, n);
+    if !write(&out[..written], after) {
+        return Next::Failed;
+    }
+    if (n == 0) | left.ended {
+        return Next::Ended;
+    }
+    Next::On {
+        held: left.held,
+        read: after,
+    }
+}
+
 // Reads once, and writes the lines of what came.
 fn turn(book: &mut [u8], part: &mut [u8], out: &mut [u8], held: usize, read: u64) -> Next
     requires { ⌜ held < 46 ⌝ }
@@ -99,27 +137,11 @@ fn turn(book: &mut [u8], part: &mut [u8], out: &mut [u8], held: usize, read: u64
 {
     let got = libc::read(STDIN_FILENO, &mut part[held..]);
     if got < 0 {
-        fail(b"sheet: cannot read standard input", read);
+        fail(b"sheet: cannot read standard input after byte ", read);
         return Next::Failed;
     }
-    let n = io::count(got, &part[held..]);
-    let end = held + n;
-    let left = give(book, part, end, n == 0, out);
-    let written = left.written;
-    if !io::write_all(STDOUT_FILENO, &out[..written]) {
-        fail(b"sheet: cannot write standard output", plus(read, n));
-        return Next::Failed;
-    }
-    if n == 0 {
-        return Next::Ended;
-    }
-    if left.ended {
-        return Next::Ended;
-    }
-    Next::On {
-        held: left.held,
-        read: plus(read, n),
-    }
+    let n = io::count(got, part);
+    hand_on(book, part, out, held, n, read)
 }
 
 fn run(book: &mut [u8], part: &mut [u8], out: &mut [u8])
