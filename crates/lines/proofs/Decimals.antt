@@ -12,7 +12,8 @@ use lib.Seq.{sets}
 use lib.IntN.{ℤ, pos, negsuc, natAbs, _-ℤ_}
 use lib.Signed.{leZ, nonNeg}
 use mir.Syntax.{w64}
-use mir.Val.{Fits, SFits, boolByte}
+use mir.Val.{Fits, SFits, boolByte, toZ, ofZ}
+use mir.Facts.{toZ-ofZ}
 use Rattle.rules.specs.Log.{if_then_else_}
 use Rattle.rules.specs.Bytes.{Bytes}
 use Rattle.rules.specs.Lines.{digits, decimal, signedDecimal, flag}
@@ -68,30 +69,58 @@ last-digit l at i n x h e k =
 
 -- ---- signed numbers
 
-pub without-sign : (z : ℤ) → leZ (pos 0) z ≡ true → signedDecimal z ≡ decimal (natAbs z)
+without-sign : (z : ℤ) → leZ (pos 0) z ≡ true → signedDecimal z ≡ decimal (natAbs z)
 unfolding signedDecimal
 without-sign (pos n) h = refl
 without-sign (negsuc n) h = absurd (omega (arith, le-yes (pos 0) (negsuc n) h))
 
-pub with-sign : (z : ℤ) → leZ (pos 0) z ≡ false → signedDecimal z ≡ 45 ∷ decimal (natAbs z)
+with-sign : (z : ℤ) → leZ (pos 0) z ≡ false → signedDecimal z ≡ 45 ∷ decimal (natAbs z)
 unfolding signedDecimal
 with-sign (pos n) h = absurd (omega (arith, le-no (pos 0) (pos n) h))
 with-sign (negsuc n) h = refl
 
 -- the magnitude of an i64
 module _ (z : ℤ) (f : SFits w64 z) where
-  pub not-below : leZ (pos 0) z ≡ true → T (nonNeg z) × Fits w64 (natAbs z)
+  not-below : leZ (pos 0) z ≡ true → T (nonNeg z) × Fits w64 (natAbs z)
   not-below h = cast-64 z (omega (arith, le-yes (pos 0) z h)) (omega (arith, in-64 z f))
 
   module _ (h : leZ (pos 0) z ≡ false) where
-    pub less-one : SFits w64 (negsuc 0 -ℤ z)
+    less-one : SFits w64 (negsuc 0 -ℤ z)
     less-one = fits-64 (negsuc 0 -ℤ z) (omega (arith, in-64 z f, le-no (pos 0) z h, difference-law (negsuc 0) z))
 
-    pub less-one-cast : T (nonNeg (negsuc 0 -ℤ z)) × Fits w64 (natAbs (negsuc 0 -ℤ z))
+    less-one-cast : T (nonNeg (negsuc 0 -ℤ z)) × Fits w64 (natAbs (negsuc 0 -ℤ z))
     less-one-cast = cast-64 (negsuc 0 -ℤ z) (omega (arith, le-no (pos 0) z h, difference-law (negsuc 0) z)) (omega (arith, in-64 (negsuc 0 -ℤ z) less-one))
 
-    pub one-more : natAbs (negsuc 0 -ℤ z) + 1 ≡ natAbs z
+    one-more : natAbs (negsuc 0 -ℤ z) + 1 ≡ natAbs z
     one-more = omega (arith, le-no (pos 0) z h, difference-law (negsuc 0) z, abs-is z, abs-is (negsuc 0 -ℤ z), apart z, apart (negsuc 0 -ℤ z))
 
-    pub one-more-fits : natAbs (negsuc 0 -ℤ z) + 1 < 2 ^ 64
-    one-more-fits = omega (arith, one-more, in-64 z f, abs-is z)
+    one-more-fits : Fits w64 (natAbs (negsuc 0 -ℤ z) + 1)
+    one-more-fits = record { fits = omega (arith, one-more, in-64 z f, abs-is z) }
+
+-- the same of a number as it is held, in bits: it fits, so nothing is lost
+abbrev sent : ℤ → ℤ
+sent z = toZ w64 (ofZ w64 z)
+
+module _ (z : ℤ) (f : SFits w64 z) where
+  module _ (h : leZ (pos 0) (sent z) ≡ true) where
+    pub held-cast : T (nonNeg (sent z)) × Fits w64 (natAbs (sent z))
+    held-cast = simp toZ-ofZ (not-below z f (simp toZ-ofZ at h))
+
+    pub held-text : decimal (natAbs (sent z)) ≡ signedDecimal z
+    held-text = simp toZ-ofZ (sym (without-sign z (simp toZ-ofZ at h)))
+
+  module _ (h : leZ (pos 0) (sent z) ≡ false) where
+    below : leZ (pos 0) z ≡ false
+    below = simp toZ-ofZ at h
+
+    pub held-less : SFits w64 (negsuc 0 -ℤ sent z)
+    held-less = simp toZ-ofZ (less-one z f below)
+
+    pub held-less-cast : T (nonNeg (sent (negsuc 0 -ℤ sent z))) × Fits w64 (natAbs (sent (negsuc 0 -ℤ sent z)))
+    held-less-cast = let g = less-one z f below in simp toZ-ofZ (less-one-cast z f below)
+
+    pub held-more : Fits w64 (natAbs (sent (negsuc 0 -ℤ sent z)) + 1)
+    held-more = let g = less-one z f below in simp toZ-ofZ (one-more-fits z f below)
+
+    pub held-minus : 45 ∷ decimal (natAbs (sent (negsuc 0 -ℤ sent z)) + 1) ≡ signedDecimal z
+    held-minus = let g = less-one z f below in simp (toZ-ofZ, one-more z f below) (sym (with-sign z below))

@@ -1,17 +1,9 @@
 // Numbers in decimal, as text.
-ghost use Prim.Native.Nat.{_+_, _≤_, _<_};
+ghost use Prim.Native.Nat.{_+_, _≤_};
 ghost use mathlib.Core.Path.{_≡_};
-ghost use lib.IntN.{natAbs};
 ghost use lib.ListN.{length};
 ghost use lib.Seq.{sets};
 ghost use Rattle.rules.specs.Lines.{decimal, signedDecimal};
-
-fn digit(d: u64) -> u8
-    requires { ⌜ d < 10 ⌝ }
-    ensures { λ r. ⌜ r ≡ 48 + d ⌝ }
-{
-    48 + d as u8
-}
 
 fn digit_count(n: u64) -> usize
     ensures { λ r. ⌜ r ≡ length (decimal n) ⌝ }
@@ -36,31 +28,22 @@ pub(crate) fn put_decimal(out: &mut [u8], at: usize, n: u64) -> usize
     let mut rest = n;
     while 10 <= rest {
         i -= 1;
-        out[i] = digit(rest % 10);
+        out[i] = b'0' + (rest % 10) as u8;
         rest /= 10;
     }
-    out[at] = digit(rest);
+    out[at] = b'0' + rest as u8;
     end
 }
 
-// Of the least i64 too, which has no negation.
-fn magnitude(z: i64) -> u64
-    ensures { λ r. ⌜ r ≡ natAbs z ⌝ }
-{
-    if 0 <= z {
-        return z as u64;
-    }
-    (-1 - z) as u64 + 1
-}
-
+// The least i64 has no negation, so one less is negated.
 pub(crate) fn put_signed(out: &mut [u8], at: usize, z: i64) -> usize
     requires { ⌜ at + 21 ≤ length (now out) ⌝ }
     ensures { λ r. ⌜ (r ≡ at + length (signedDecimal z)) × (now (out .exit) ≡ sets (now (out .entry)) at (signedDecimal z)) ⌝ }
     ensures { λ r. ⌜ r ≤ at + 21 ⌝ }
 {
     if 0 <= z {
-        return put_decimal(out, at, magnitude(z));
+        return put_decimal(out, at, z as u64);
     }
     out[at] = b'-';
-    put_decimal(out, at + 1, magnitude(z))
+    put_decimal(out, at + 1, (-1 - z) as u64 + 1)
 }

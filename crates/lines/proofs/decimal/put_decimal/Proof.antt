@@ -3,7 +3,7 @@ use Prim.Native.Nat.{_+_, _≤_}
 use mathlib.Core.Path.{_≡_, refl, sym, ap, _∙_}
 use native.Mathlib.Omega.{arith}
 use borrow.Author.Needs.{needs}
-use lib.ListN.{length, set, length-set}
+use lib.ListN.{length, length-set}
 use lib.Seq.{sets}
 use Rattle.rules.specs.Lines.{decimal}
 use Rattle.lines.proofs.Decimals.{decimal-digit, length-step, length-decimal, last-digit}
@@ -34,8 +34,11 @@ loop-holds c =
 sub-i : tie.Need-sub-i Inv-loop μ-loop
 sub-i c = omega (arith, length-step (c .before .loop .rest) (c .loop-test .taken))
 
-digit-requires : tie.Need-digit-requires Inv-loop μ-loop
-digit-requires c κs = omega arith
+cast-out : tie.Need-cast-out Inv-loop μ-loop
+cast-out c = omega arith
+
+add-out : tie.Need-add-out Inv-loop μ-loop
+add-out c = omega arith
 
 slice-write-out : tie.Need-slice-write-out Inv-loop μ-loop
 slice-write-out c = omega arith
@@ -45,25 +48,28 @@ loop-less c = omega arith
 
 loop-again : tie.Need-loop-again Inv-loop μ-loop
 loop-again c =
-    let l = c .before .before .loop in
-    let at = c .before .before .before .before .before .args .at in
-    let h = c .before .loop-test .taken in
-    (omega (arith, length-step (l .rest) h), omega arith, last-digit (l .out) at (l .i) (l .rest) _ h (l .inv .0) (c .digit .ensures) ∙ l .inv .2, length-set (l .out) _ _ ∙ l .inv .3)
+    let l = c .before .loop in
+    let at = c .before .before .before .before .args .at in
+    let h = c .loop-test .taken in
+    (omega (arith, length-step (l .rest) h), omega arith, last-digit (l .out) at (l .i) (l .rest) _ h (l .inv .0) refl ∙ l .inv .2, length-set (l .out) _ _ ∙ l .inv .3)
 
-digit-requires-2 : tie.Need-digit-requires-2 Inv-loop μ-loop
-digit-requires-2 c κs = omega arith
+cast-out-2 : tie.Need-cast-out-2 Inv-loop μ-loop
+cast-out-2 c = omega arith
+
+add-out-2 : tie.Need-add-out-2 Inv-loop μ-loop
+add-out-2 c = omega arith
 
 slice-write-out-2 : tie.Need-slice-write-out-2 Inv-loop μ-loop
 slice-write-out-2 c = omega arith
 
 same-length : tie.Need-same-length Inv-loop μ-loop
-same-length c = length-set (c .before .before .loop .out) _ _ ∙ c .before .before .loop .inv .3
+same-length c = length-set (c .before .loop .out) _ _ ∙ c .before .loop .inv .3
 
 returns : tie.Need-returns Inv-loop μ-loop
 returns c =
-    let l = c .before .before .loop in
-    let s = c .before .before .before .before .before in
-    ((omega arith, ap (set (l .out) (s .args .at)) (c .digit2 .ensures) ∙ sym (ap (sets (l .out) (s .args .at)) (decimal-digit (l .rest) (c .before .loop-test .left))) ∙ l .inv .2), omega (arith, length-decimal (s .args .n) (s .fits .n .fits)))
+    let l = c .before .loop in
+    let a = c .before .before .before .before .args in
+    ((omega arith, sym (ap (sets (l .out) (a .at)) (decimal-digit (l .rest) (c .loop-test .left))) ∙ l .inv .2), omega (arith, length-decimal (a .n) (c .before .before .before .before .fits .n .fits)))
 
 pub put-decimal-spec : {M : Type 1} → statement M
 put-decimal-spec =
@@ -75,11 +81,13 @@ put-decimal-spec =
     add-end
     loop-holds
     sub-i
-    digit-requires
+    cast-out
+    add-out
     slice-write-out
     loop-less
     loop-again
-    digit-requires-2
+    cast-out-2
+    add-out-2
     slice-write-out-2
     same-length
     returns)

@@ -34,9 +34,6 @@ until-fits c = search needs
 enum-known-answer-3 : tie.Need-enum-known-answer-3
 enum-known-answer-3 c = search needs
 
-get-requires : tie.Need-get-requires
-get-requires c κs = search needs
-
 put-settle-requires : tie.Need-put-settle-requires
 put-settle-requires c κs = search needs
 
@@ -55,55 +52,49 @@ enum-known-answer-4 c = search needs
 slice-aggregate-put-short-3 : tie.Need-slice-aggregate-put-short-3
 slice-aggregate-put-short-3 c = search needs
 
-cast-put-short : tie.Need-cast-put-short
-cast-put-short c = search needs
-
 put-short-requires-3 : tie.Need-put-short-requires-3
 put-short-requires-3 c κs = search needs
 
 same-length : tie.Need-same-length
-same-length c = search needs
+same-length c = c .before .before .put-short .kept .0
 
 returns : tie.Need-returns
 unfolding line
-returns c = rw (c .before .before .before .before .before .enum-told .given .1) (let p = (c .before .before .put-short .ensures) in (p .0 .0, p .0 .1, omega (arith, p .0 .0, p .1)))
+returns c = let p = c .before .before .put-short .ensures in rw (c .before .before .before .before .before .enum-told .given .1) (p .0, omega (arith, p .1))
 
 same-length-2 : tie.Need-same-length-2
-same-length-2 c = search needs
+same-length-2 c = c .before .before .put-used .kept .0
 
 returns-2 : tie.Need-returns-2
-unfolding line
-returns-2 c = rw (c .before .before .before .before .before .answer .given .1) (let p = (c .before .before .put-used .ensures) in (p .0 .0, p .0 .1, omega (arith, p .0 .0, p .1)))
+returns-2 c = rw (c .before .before .before .before .before .answer .given .1) (c .before .before .put-used .ensures)
 
 same-length-3 : tie.Need-same-length-3
-same-length-3 c = search needs
+same-length-3 c = c .before .before .put-wait .kept .0
 
 returns-3 : tie.Need-returns-3
-unfolding line
 returns-3 c =
     let f = until-fits (c .before .before .before .before) in
-    rw (c .before .before .before .before .before .answer2 .given .1) (let p = simp toZ-ofZ at (c .before .before .put-wait .ensures) in (p .0 .0, p .0 .1, omega (arith, p .0 .0, p .1)))
+    rw (c .before .before .before .before .before .answer2 .given .1) (simp toZ-ofZ at (c .before .before .put-wait .ensures))
 
 same-length-4 : tie.Need-same-length-4
-same-length-4 c = search needs
+same-length-4 c = c .before .before .put-settle .kept .0
 
 returns-4 : tie.Need-returns-4
-unfolding line
-returns-4 c = rw (c .before .before .before .before .before .before .answer3 .given .1, ← c .before .before .before .get .ensures) (let p = (c .before .before .put-settle .ensures) in (p .0 .0, p .0 .1, omega (arith, p .0 .0, p .1)))
+returns-4 c = rw (c .before .before .before .before .before .answer3 .given .1) (c .before .before .put-settle .ensures)
 
 same-length-5 : tie.Need-same-length-5
-same-length-5 c = search needs
+same-length-5 c = c .before .before .put-short2 .kept .0
 
 returns-5 : tie.Need-returns-5
 unfolding line
-returns-5 c = rw (c .before .before .before .before .before .enum-told2 .given .1) (let p = (c .before .before .put-short2 .ensures) in (p .0 .0, p .0 .1, omega (arith, p .0 .0, p .1)))
+returns-5 c = let p = c .before .before .put-short2 .ensures in rw (c .before .before .before .before .before .enum-told2 .given .1) (p .0, omega (arith, p .1))
 
 same-length-6 : tie.Need-same-length-6
-same-length-6 c = search needs
+same-length-6 c = c .before .before .put-short3 .kept .0
 
 returns-6 : tie.Need-returns-6
 unfolding line
-returns-6 c = rw (c .before .before .before .before .before .before .answer4 .given .1) (let p = (c .before .before .put-short3 .ensures) in (p .0 .0, p .0 .1, omega (arith, p .0 .0, p .1)))
+returns-6 c = let p = c .before .before .put-short3 .ensures in rw (c .before .before .before .before .before .before .answer4 .given .1) (p .0, omega (arith, p .1))
 
 pub put-line-spec : {M : Type 1} → statement M
 put-line-spec =
@@ -117,14 +108,12 @@ put-line-spec =
     enum-known-answer-2
     put-wait-requires
     enum-known-answer-3
-    get-requires
     put-settle-requires
     enum-told-2
     slice-aggregate-put-short-2
     put-short-requires-2
     enum-known-answer-4
     slice-aggregate-put-short-3
-    cast-put-short
     put-short-requires-3
     same-length
     returns

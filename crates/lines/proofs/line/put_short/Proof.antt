@@ -1,36 +1,31 @@
-use native.Mathlib.Omega.{arith}
+use mathlib.Core.Path.{_∙_}
 use mathlib.Core.List.{_++_}
+use native.Mathlib.Omega.{arith}
+use lib.ListN.{length-set}
 use Rattle.rules.specs.Lines.{ascii, decimal}
-use Rattle.lines.proofs.Lines.{puts, puts-then, written}
+use Rattle.lines.proofs.Lines.{word-line}
 use borrow.Author.Needs.{needs}
 use Rattle.lines.proofs.line.put_short.Statement.{statement}
 use Rattle.lines.proofs.line.put_short.Tie as tie
 
-put-requires : tie.Need-put-requires
-put-requires c κs = search needs
+put-head-requires : tie.Need-put-head-requires
+put-head-requires c κs = search needs
 
-put-field-requires : tie.Need-put-field-requires
-put-field-requires c κs = search needs
+slice-write-out : tie.Need-slice-write-out
+slice-write-out c = search needs
 
-end-line-requires : tie.Need-end-line-requires
-end-line-requires c κs = search needs
+add-result : tie.Need-add-result
+add-result c = search needs
 
 same-length : tie.Need-same-length
-same-length c = search needs
+same-length c = length-set (c .before .before .put-head .last .0) _ _ ∙ c .before .before .put-head .kept .0
 
 returns : tie.Need-returns
 returns c =
-    let e = c .before .before in
-    let c2 = e .before .before .before .before in
-    let c1 = c2 .before .before .before .before in
-    let a = c1 .before .before .before .before .args in (
-      written
-          (puts-then {l = a .out .now} {i = a .at} (a .word .now) (c1 .put .ensures)
-          (puts-then (ascii " " ++ decimal (a .n)) (c2 .put-field .ensures .0)
-          (puts (ascii "\n") (e .end-line .ensures)))),
-      omega (arith, c1 .put .ensures .0, c2 .put-field .ensures .1, e .end-line .ensures .0),
-    )
+    let a = c .before .before .before .before .before .before .args in
+    let p = c .before .before .put-head .ensures in
+    (word-line (a .out .now) (a .word .now) (ascii " " ++ decimal (a .n)) (p .0), omega (arith, p .1))
 
 pub put-short-spec : {M : Type 1} → statement M
 put-short-spec =
-    tie.close (tie.spec put-requires put-field-requires end-line-requires same-length returns)
+    tie.close (tie.spec put-head-requires slice-write-out add-result same-length returns)

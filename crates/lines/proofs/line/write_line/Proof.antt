@@ -1,5 +1,4 @@
-use mathlib.Core.Path.{refl, _∙_}
-use native.Mathlib.Nat.{zero-add}
+use mathlib.Core.Path.{refl}
 use native.Mathlib.Omega.{arith}
 use borrow.Author.Tests.{lt-ltb, le-ltb}
 use lib.ListN.{length}
@@ -15,10 +14,10 @@ put-line-requires : tie.Need-put-line-requires
 put-line-requires c κs = search needs
 
 same-length : tie.Need-same-length
-same-length c = search needs
+same-length c = c .before .before .put-line .kept .0
 
 returns-2 : tie.Need-returns-2
-returns-2 c = rw (le-ltb (length (c .before .before .before .before .before .before .args .out .now)) lineMax (c .before .before .before .before .if1 .left)) (let e = c .before .before .put-line .ensures in ((e .0 ∙ zero-add _, e .1), omega (arith, e .0, e .2)))
+returns-2 c = rw (le-ltb (length (c .before .before .before .before .before .before .args .out .now)) lineMax (c .before .before .before .before .if1 .left)) (c .before .before .put-line .ensures)
 
 pub write-line-spec : {M : Type 1} → statement M
 write-line-spec = tie.close (tie.spec returns put-line-requires same-length returns-2)
