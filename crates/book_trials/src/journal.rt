@@ -72,7 +72,7 @@ fn compare(book: &[u8], end: &[u8], t: &mut [u64; PLACES]) {
     }
 }
 
-// Both are zero before, and as long as each other.
+// The two books are zero before, and as long as each other.
 fn replay_on(book: &mut [u8], end: &mut [u8], t: &mut [u64; PLACES]) -> bool {
     if !records(book) {
         return false;

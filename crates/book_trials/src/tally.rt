@@ -72,7 +72,7 @@ fn put(byte: u8, numbers: &[u64], at: usize) -> usize {
     at + 1
 }
 
-// Writes a text with the numbers from this place on.
+// Writes a text, each # in it as one of the numbers from this place on.
 fn print(text: &[u8], numbers: &[u64], first: usize) {
     let mut at = first;
     let mut i: usize = 0;

@@ -61,7 +61,7 @@ fn parts(b: &[u8]) -> SettlementParts {
     }
 }
 
-// The state at an offset.
+// The state at an offset; past the end of b the empty one.
 pub(crate) fn parts_at(b: &[u8], at: usize) -> SettlementParts {
     if b.len() < at {
         return SettlementParts::empty();

@@ -50,7 +50,7 @@ fn put(byte: u8, t: &[u64; PLACES], at: usize) -> usize {
     at + 1
 }
 
-// Writes a text with the numbers from this place on.
+// Writes a text, each # in it as one of the numbers from this place on.
 pub(crate) fn print(text: &[u8], t: &[u64; PLACES], first: usize) {
     let mut at = first;
     let mut i: usize = 0;

@@ -20,7 +20,8 @@ feed-requires c κs = search needs
 keep-requires : tie.Need-keep-requires
 keep-requires c κs =
     let a = c .before .before .before .before .before .before .before .before .before .before .before .before .args in
-    (taken (a .last) (a .book .now) (a .part .now) (a .out .now) (a .end) (omega arith) (c .before .before .before .before .before .feed .ensures), omega arith)
+    let t = taken (a .last) (a .book .now) (a .part .now) (a .out .now) (a .end) (omega arith) (c .before .before .before .before .before .feed .ensures) in
+    (omega arith, omega arith)
 
 same-length : tie.Need-same-length
 same-length c = search needs

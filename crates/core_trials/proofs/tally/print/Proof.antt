@@ -1,3 +1,4 @@
+-- `core_trials::tally::print` is safe and ends. The measure is the number of bytes that are left; nothing has to hold from turn to turn.
 use Prim.Native.Nat.{_-_}
 use lib.ListN.{length}
 use borrow.Author.Needs.{needs}
