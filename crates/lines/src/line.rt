@@ -87,12 +87,12 @@ fn put_used(out: &mut [u8], series: u8, u: PrintUse) -> usize
 {
     let slot = u.slot;
     let link = u.next_print;
-    let a = put_head(out, b"used", series);
-    let b = put_index(out, a, slot);
-    let c = put_index(out, b, link);
-    let d = put_field(out, c, u.fallback as u64);
-    out[d] = b'\n';
-    d + 1
+    let mut at = put_head(out, b"used", series);
+    at = put_index(out, at, slot);
+    at = put_index(out, at, link);
+    at = put_field(out, at, u.fallback as u64);
+    out[at] = b'\n';
+    at + 1
 }
 
 fn put_wait(out: &mut [u8], series: u8, until: i64) -> usize
@@ -100,11 +100,11 @@ fn put_wait(out: &mut [u8], series: u8, until: i64) -> usize
     ensures { λ r. ⌜ (r ≡ length (line series (Wait until))) × (now (out .exit) ≡ sets (now (out .entry)) 0 (line series (Wait until))) ⌝ }
     ensures { λ r. ⌜ r ≤ lineMax ⌝ }
 {
-    let a = put_head(out, b"wait", series);
-    out[a] = b' ';
-    let b = put_signed(out, a + 1, until);
-    out[b] = b'\n';
-    b + 1
+    let mut at = put_head(out, b"wait", series);
+    out[at] = b' ';
+    at = put_signed(out, at + 1, until);
+    out[at] = b'\n';
+    at + 1
 }
 
 fn put_settle(
@@ -118,12 +118,12 @@ fn put_settle(
     ensures { λ r. ⌜ (r ≡ length (line series (Settle (methodOf method) (price .0) samples))) × (now (out .exit) ≡ sets (now (out .entry)) 0 (line series (Settle (methodOf method) (price .0) samples))) ⌝ }
     ensures { λ r. ⌜ r ≤ lineMax ⌝ }
 {
-    let a = put_head(out, b"settle", series);
-    let b = put_field(out, a, method.number() as u64);
-    let c = put_field(out, b, price.get());
-    let d = put_field(out, c, samples as u64);
-    out[d] = b'\n';
-    d + 1
+    let mut at = put_head(out, b"settle", series);
+    at = put_field(out, at, method.number() as u64);
+    at = put_field(out, at, price.get());
+    at = put_field(out, at, samples as u64);
+    out[at] = b'\n';
+    at + 1
 }
 
 // Writes the line of an answer to a command of the series to the front of out, and answers its
