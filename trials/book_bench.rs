@@ -58,7 +58,11 @@ fn case(random: &mut Random, kind: &str) -> (Case, u8) {
         "ask_settle" | "ask_fixed" | "fix" => 20 + random.below(11),
         _ => 1 + random.below(19),
     };
-    let links = random.below(5);
+    let links = match kind {
+        "ask_next_print" => 5,
+        "ask_partial_next" => 1 + random.below(4),
+        _ => random.below(5),
+    };
     let mut entries = vec![opening.clone()];
     entries.extend((0..slots).map(|i| slot_print(random, i)));
     entries.extend((0..links).map(|i| link_print(random, i)));
@@ -69,8 +73,7 @@ fn case(random: &mut Random, kind: &str) -> (Case, u8) {
         "offer_link" => (link_print(random, links), 254),
         "offer_14" => (entries[slots as usize].clone(), 14),
         "ask_wait" => (ask_entry(SERIES, EXPIRY + random.below(1_000) as i64), 253),
-        "ask_settle" => (ask_entry(SERIES, late), 252),
-        "ask_fixed" => (ask_entry(SERIES, late), 252),
+        "ask_settle" | "ask_next_print" | "ask_partial_next" | "ask_fixed" => (ask_entry(SERIES, late), 252),
         "fix" => (fix_entry(SERIES, late), 252),
         "fix_39" => (fix_entry(SERIES, EXPIRY + random.below(1_000) as i64), 39),
         _ => panic!("no such command to measure: {kind}"),
@@ -81,6 +84,15 @@ fn case(random: &mut Random, kind: &str) -> (Case, u8) {
         _ => (),
     }
     (Case { record: left(&entries), entry }, code)
+}
+
+/// The number of the method by which a series of this kind settles.
+fn method(kind: &str) -> u64 {
+    match kind {
+        "ask_next_print" => 1,
+        "ask_partial_next" => 2,
+        _ => 0,
+    }
 }
 
 /// A book in which no other series is used, or every one is open.
@@ -102,6 +114,7 @@ fn cases(random: &mut Random, kind: &str, book: &mut [u8]) -> Vec<Case> {
                 give(side, book, &case.entry)
             });
             assert_eq!((ours, rust.0), (rust, code), "{kind}");
+            assert!(code != 252 || rust.1[0] == method(kind), "{kind}");
             case
         })
         .collect()

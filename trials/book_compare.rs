@@ -4,6 +4,7 @@ use super::book::{BOOK, RECORD, rust_command};
 use super::by_hand::{damaged_records, orders};
 use super::journals::{Mood, change_field, each_command, fields, next, planted, zeroed};
 use super::kinds::{Seen, kind, own_record};
+use super::record::high_half;
 use super::{Given, Random, give, hex, lanternfold_command};
 use std::collections::BTreeMap;
 
@@ -20,6 +21,8 @@ struct Trial {
     different: u64,
     /// Commands on acceptable records, and on others.
     records: [u64; 2],
+    /// Settlements by the chain, by the high half of its total.
+    by_chain: [u64; 5],
 }
 
 impl Trial {
@@ -34,6 +37,7 @@ impl Trial {
             tried: 0,
             different: 0,
             records: [0; 2],
+            by_chain: [0; 5],
         }
     }
 
@@ -62,6 +66,9 @@ impl Trial {
         if let Some(record) = record {
             let is_good = is_acceptable(record);
             self.records[usize::from(!is_good)] += 1;
+            if rust.0 == 252 && matches!(rust.1[0], 1 | 2) {
+                self.by_chain[high_half(&link_prices(record))] += 1;
+            }
             if is_good == (rust.0 == 11) {
                 wrong = format!("by 01's text the record is {}acceptable", if is_good { "" } else { "not " });
             }
@@ -103,6 +110,10 @@ impl Trial {
             println!("  entry {}", hex(entry));
         }
     }
+}
+
+fn link_prices(record: &[u8]) -> [u64; 5] {
+    std::array::from_fn(|i| u64::from_le_bytes(std::array::from_fn(|byte| record[104 + 8 * i + byte])))
 }
 
 /// Acceptable records that journals left, a few of each kind: the tag, and for an open record which candidates it has
@@ -244,6 +255,7 @@ pub fn compare(random: &mut Random) -> bool {
         "book: {} commands tried, {} different; {} on acceptable records, {} on others",
         trial.tried, trial.different, trial.records[0], trial.records[1]
     );
-    let saw_all = trial.seen.report(|_| 1);
+    println!("book: settled by the chain, by the high half of its total: {:?}", trial.by_chain);
+    let saw_all = trial.seen.report(|_| 1) && trial.by_chain.iter().all(|n| *n > 0);
     saw_all && kinds == Kept::KINDS && trial.different == 0
 }

@@ -4,7 +4,7 @@ use metalbook_core::*;
 use std::collections::BTreeSet;
 
 /// Every kind of answer, and how many records of it the sample has.
-const WANTED: [(&str, u32); 65] = [
+const WANTED: [(&str, u32); 72] = [
     ("mean value", 120),
     ("mean refused 0", 80),
     ("accept value", 70),
@@ -49,8 +49,15 @@ const WANTED: [(&str, u32); 65] = [
     ("decide Wait for a delay: Void", 14),
     ("decide Window, all slots", 14),
     ("decide Window, the minimum", 20),
-    ("decide NextPrint", 20),
-    ("decide PartialNextPrint", 20),
+    ("decide NextPrint, high half 0", 12),
+    ("decide NextPrint, high half 1", 8),
+    ("decide NextPrint, high half 2", 6),
+    ("decide NextPrint, high half 3", 6),
+    ("decide NextPrint, high half 4", 6),
+    ("decide PartialNextPrint, high half 0", 12),
+    ("decide PartialNextPrint, high half 1", 8),
+    ("decide PartialNextPrint, high half 2", 6),
+    ("decide PartialNextPrint, high half 3", 6),
     ("decide PartialWindow", 20),
     ("decide Fallback", 20),
     ("decide Void", 14),
@@ -605,6 +612,11 @@ fn waited(s: &Series, until: i64) -> String {
     }
 }
 
+/// The high half of the total of a chain's prices; a place past the links is zero.
+pub fn high_half(prices: &[u64; 5]) -> usize {
+    (prices.iter().map(|p| u128::from(*p)).sum::<u128>() >> 64) as usize
+}
+
 fn outcome(s: &Series, now: i64, answer: Result<Decision, CoreError>) -> String {
     match answer {
         Ok(Decision::Wait { until }) => waited(s, until),
@@ -612,6 +624,9 @@ fn outcome(s: &Series, now: i64, answer: Result<Decision, CoreError>) -> String 
         Ok(Decision::Settle { method: SettleMethod::Window, samples, .. }) => {
             let all = u32::from(samples) == s.terms.slots();
             if all { "Window, all slots".into() } else { "Window, the minimum".into() }
+        }
+        Ok(Decision::Settle { method: method @ (SettleMethod::NextPrint | SettleMethod::PartialNextPrint), .. }) => {
+            format!("{method:?}, high half {}", high_half(&s.parts.next_prices))
         }
         Ok(Decision::Settle { method, .. }) => format!("{method:?}"),
         Err(e) => {

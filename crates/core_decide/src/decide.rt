@@ -1,6 +1,6 @@
 // The settlement cascade: what a series' candidates settle at, and from when.
 ghost use mathlib.Core.Path.{_≡_};
-ghost use Prim.Native.Nat.{min, _+_, _*_, _^_, _≤_, _<_};
+ghost use Prim.Native.Nat.{_+_, _*_, _^_, _≤_};
 ghost use lib.IntN.{ℤ, pos, _+ℤ_};
 ghost use Rattle.rules.specs.Log.{front, total};
 ghost use Rattle.rules.specs.Answers.{Answer, number, method};
@@ -131,36 +131,49 @@ fn settle_from(
     }
 }
 
-// w + x, for a sum of few numbers.
-fn plus(w: numbers::wide::Wide, x: u64) -> numbers::wide::Wide
-    requires { ⌜ w .high < 5 ⌝ }
-    ensures { λ r. ⌜ (wideOf r ≡ wideOf w + x) × (r .high ≤ w .high + 1) ⌝ }
-{
-    let numbers::wide::Sum::Of(sum) = numbers::wide::plus(w, x) else {
-        return w;
-    };
-    sum
+// A sum of at most five prices, high * 2^64 + low (#108).
+struct Narrow {
+    high: u8,
+    low: u64,
 }
 
-// A number of links, at most the five that there is room for.
-fn at_most_five(len: u8) -> usize
-    ensures { λ r. ⌜ r ≡ min len 5 ⌝ }
+// The first len prices added. All five places are gone through, so that the loop's length is known
+// when it is compiled.
+fn add_prices(prices: [u64; 5], len: u8) -> Narrow
+    ensures { λ r. ⌜ (r .high * 2 ^ 64 + r .low ≡ total (front 0 len prices)) × (r .high ≤ 4) ⌝ }
 {
-    if len < 5 { len as usize } else { 5 }
+    let mut high: u8 = 0;
+    let mut low: u64 = 0;
+    let mut i: usize = 0;
+    while i < 5 {
+        if i < (len as usize) {
+            let price = prices[i];
+            let room = 0xffff_ffff_ffff_ffff - price;
+            if low <= room {
+                low += price;
+            } else {
+                low = low - room - 1;
+                high += 1;
+            }
+        }
+        i += 1;
+    }
+    Narrow {
+        high: high,
+        low: low,
+    }
 }
 
 // The sum of the first len prices.
 fn chain_sum(prices: [u64; 5], len: u8) -> numbers::wide::Wide
     ensures { λ r. ⌜ wideOf r ≡ total (front 0 len prices) ⌝ }
 {
-    let n = at_most_five(len);
-    let mut sum = numbers::wide::Wide { high: 0, low: 0 };
-    let mut i: usize = 0;
-    while i < n {
-        sum = plus(sum, prices[i]);
-        i += 1;
+    let sum = add_prices(prices, len);
+    let high = sum.high as u64;
+    numbers::wide::Wide {
+        high: high,
+        low: sum.low,
     }
-    sum
 }
 
 // By the mean of the chain's prices, from the terms' delay after t on. The sum is taken only then.
