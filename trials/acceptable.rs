@@ -1,4 +1,4 @@
-//! 01's "Record" once more: whether 200 bytes are acceptable, written from its text and not from the code.
+//! 01's "Record" with #103 once more: whether 456 bytes are acceptable, written from the text and not from the code.
 //! Of the core it takes the decision alone.
 use metalbook_core::{Decision, OracleParams, SettlementParts, SettlementState, UnixTimestamp};
 
@@ -49,6 +49,15 @@ fn has_good_state(b: &[u8]) -> bool {
         && (signed(b, 144, 8) == 0) == (unsigned(b, 152, 8) == 0)
 }
 
+/// #103's own: a price above zero at each filled slot, zero at each other one up to the last of 32, and nothing else in
+/// the sum.
+fn has_good_prices(b: &[u8]) -> bool {
+    let bits = unsigned(b, 32, 4);
+    let prices: Vec<u128> = (0..32).map(|i| unsigned(b, 200 + 8 * i, 8)).collect();
+    prices.iter().enumerate().all(|(i, price)| (*price != 0) == (bits & 1 << i != 0))
+        && prices.iter().sum::<u128>() == unsigned(b, 48, 16)
+}
+
 /// The decision at the fixing time. `None` where it is a refusal, and where the core takes the terms or the state for bad.
 fn decision(b: &[u8]) -> Option<Decision> {
     let [window, slot, delay, lookback, hard] = [12, 16, 20, 24, 28].map(|at| unsigned(b, at, 4) as u32);
@@ -75,7 +84,7 @@ fn decision(b: &[u8]) -> Option<Decision> {
 /// stands there (Void: method 5, samples and price zero)."
 pub fn is_acceptable(b: &[u8]) -> bool {
     let (samples, method, price) = (unsigned(b, 10, 2), b[36], unsigned(b, 192, 8));
-    let has_good_body = || unsigned(b, 37, 3) == 0 && has_good_terms(b) && has_good_state(b);
+    let has_good_body = || unsigned(b, 37, 3) == 0 && has_good_terms(b) && has_good_state(b) && has_good_prices(b);
     match b[0] {
         0 => b.iter().all(|x| *x == 0),
         1 => has_good_body() && samples == 0 && method == 0 && unsigned(b, 184, 8) == 0 && price == 0,

@@ -2,15 +2,23 @@
 use metalbook_core::*;
 
 /// The bytes of a record.
-pub const RECORD: usize = 200;
+pub const RECORD: usize = 456;
 
 /// The bytes of a book, which is 64 records.
-pub const BOOK: usize = 12_800;
+pub const BOOK: usize = 29_184;
 
-/// The widths of the commands, by 01.
+/// How many slots a series has at most, and where in a record their prices start.
+pub const SLOTS: usize = MAX_SLOTS as usize;
+pub const SLOT_PRICES: usize = 200;
+
+/// The bytes of a book before #103, when a record ended there.
+pub const OLD_BOOK: usize = 64 * SLOT_PRICES;
+
+/// The widths of the commands, by 01 and #103.
 pub const OPEN_WIDTH: usize = 38;
 pub const OFFER_WIDTH: usize = 46;
 pub const ASK_WIDTH: usize = 10;
+pub const WITHDRAW_WIDTH: usize = 11;
 
 /// The refusals that a book gives by itself.
 const NOT_ACCEPTABLE: u8 = CoreError::InvariantViolated as u8;
@@ -22,6 +30,8 @@ const SERIES_USED: u8 = 36;
 const SERIES_EMPTY: u8 = 37;
 const SERIES_FIXED: u8 = 38;
 const NOT_YET: u8 = 39;
+const NO_SUCH_SLOT: u8 = 40;
+const SLOT_EMPTY: u8 = 41;
 
 /// What a command answers.
 #[derive(Clone, Copy, Debug, PartialEq, Eq)]
@@ -31,6 +41,7 @@ pub enum Answer {
     Wait { until: i64 },
     Settle { method: SettleMethod, price: StrikeUsd, samples: u16 },
     Void,
+    Done,
     Refused(u8),
 }
 
@@ -44,7 +55,7 @@ impl From<Decision> for Answer {
     }
 }
 
-/// The terms and candidates of a series.
+/// The terms and candidates of a series. Its slot prices stay in the record.
 pub struct Series {
     pub params: OracleParams,
     pub max_conf_bps: u16,
@@ -88,7 +99,7 @@ fn number(e: CoreError) -> u8 {
 
 // ---- reading and writing a record
 
-/// The N bytes at an offset, which every caller gives as a constant within the array.
+/// The N bytes at an offset, which every caller gives within the array.
 fn at<const N: usize, const M: usize>(bytes: &[u8; M], offset: usize) -> [u8; N] {
     let mut field = [0; N];
     field.copy_from_slice(&bytes[offset..offset + N]);
@@ -128,6 +139,26 @@ fn read_parts(record: &[u8; RECORD]) -> SettlementParts {
     }
 }
 
+/// The price of a slot, zero where it is empty.
+fn slot_price(record: &[u8; RECORD], slot: usize) -> u64 {
+    u64::from_le_bytes(at(record, SLOT_PRICES + 8 * slot))
+}
+
+pub fn put_slot_price(record: &mut [u8; RECORD], slot: usize, price: u64) {
+    put(record, SLOT_PRICES + 8 * slot, price.to_le_bytes());
+}
+
+/// #103: the filled slots and no others have a price, and the sum is their total.
+fn has_good_prices(record: &[u8; RECORD], parts: &SettlementParts) -> bool {
+    let (mut total, mut bits) = (0, 0);
+    for slot in 0..SLOTS {
+        let price = slot_price(record, slot);
+        bits |= u32::from(price > 0) << slot;
+        total += u128::from(price);
+    }
+    bits == parts.filled_slots && total == parts.sample_sum
+}
+
 fn read_outcome(record: &[u8; RECORD]) -> Outcome {
     Outcome {
         method: record[36],
@@ -145,7 +176,11 @@ fn read_series(record: &[u8; RECORD]) -> Option<Series> {
         return None;
     }
     let params = read_params(record).ok()?;
-    let Ok(state) = SettlementState::restore(&params, read_parts(record)) else {
+    let parts = read_parts(record);
+    if !has_good_prices(record, &parts) {
+        return None;
+    }
+    let Ok(state) = SettlementState::restore(&params, parts) else {
         return None;
     };
     let max_conf_bps = u16::from_le_bytes(at(record, 8));
@@ -176,7 +211,7 @@ impl Series {
         self.state.decide(&self.params, self.expiry, now)
     }
 
-    /// Writes the whole record.
+    /// Writes the whole record but the slot prices.
     #[inline]
     fn write(&self, record: &mut [u8; RECORD], tag: u8, outcome: &Outcome) {
         let (terms, parts) = (&self.params, self.state.parts());
@@ -283,6 +318,9 @@ fn offer(book: &mut [u8; BOOK], entry: &[u8; OFFER_WIDTH]) -> Result<Answer, u8>
     let now = i64::from_le_bytes(at(entry, 2));
     let used = series.state.add_print(&series.params, series.expiry, print, now).map_err(number)?;
     series.write_open(record);
+    if let Some(slot) = used.slot {
+        put_slot_price(record, usize::from(slot), print.price());
+    }
     Ok(Answer::Used(used))
 }
 
@@ -308,6 +346,33 @@ fn fix(book: &mut [u8; BOOK], entry: &[u8; ASK_WIDTH]) -> Result<Answer, u8> {
     }
 }
 
+fn withdraw(book: &mut [u8; BOOK], entry: &[u8; WITHDRAW_WIDTH]) -> Result<Answer, u8> {
+    let record = record_of(book, entry[1])?;
+    let stored = read(record);
+    let series = match &stored {
+        Stored::Bad => return Err(NOT_ACCEPTABLE),
+        Stored::Empty => return Err(SERIES_EMPTY),
+        Stored::Fixed(_) => return Err(SERIES_FIXED),
+        Stored::Open(series) => series,
+    };
+    let slot = entry[10];
+    if u32::from(slot) >= series.params.slots() {
+        return Err(NO_SUCH_SLOT);
+    }
+    let (parts, bit) = (series.state.parts(), 1 << slot);
+    if parts.filled_slots & bit == 0 {
+        return Err(SLOT_EMPTY);
+    }
+    // Only what changes is written.
+    let slot = usize::from(slot);
+    let sum = parts.sample_sum - u128::from(slot_price(record, slot));
+    put(record, 32, (parts.filled_slots - bit).to_le_bytes());
+    put(record, 48, sum.to_le_bytes());
+    put(record, 160, at::<8, _>(entry, 2));
+    put_slot_price(record, slot, 0);
+    Ok(Answer::Done)
+}
+
 fn of_width<const N: usize>(entry: &[u8]) -> Result<&[u8; N], u8> {
     entry.try_into().map_err(|_| WRONG_WIDTH)
 }
@@ -319,6 +384,7 @@ fn run(book: &mut [u8], entry: &[u8]) -> Result<Answer, u8> {
         0x02 => offer(book, of_width(entry)?),
         0x03 => ask(book, of_width(entry)?),
         0x04 => fix(book, of_width(entry)?),
+        0x06 => withdraw(book, of_width(entry)?),
         _ => Err(UNKNOWN_COMMAND),
     }
 }
@@ -364,6 +430,7 @@ pub unsafe extern "C" fn rust_command(
             252
         }
         Answer::Void => 251,
+        Answer::Done => 250,
         Answer::Refused(n) => n,
     }
 }

@@ -1,6 +1,6 @@
 //! Commands of each kind for the measurements: the same on every side, each with the record that it finds.
 use super::book::{Answer, RECORD, command, rust_command};
-use super::journals::{Offer, ask_entry, fix_entry, offer_entry, open_entry, zeroed};
+use super::journals::{Offer, ask_entry, fix_entry, offer_entry, open_entry, withdraw_entry, zeroed};
 use super::record::Terms;
 use super::{CommandEntry, Random, give, lanternfold_command};
 use std::hint::black_box;
@@ -76,6 +76,8 @@ fn case(random: &mut Random, kind: &str) -> (Case, u8) {
         "ask_settle" | "ask_next_print" | "ask_partial_next" | "ask_fixed" => (ask_entry(SERIES, late), 252),
         "fix" => (fix_entry(SERIES, late), 252),
         "fix_39" => (fix_entry(SERIES, EXPIRY + random.below(1_000) as i64), 39),
+        "withdraw" => (withdraw_entry(SERIES, late, random.below(slots) as u8), 250),
+        "withdraw_41" => (withdraw_entry(SERIES, late, slots as u8), 41),
         _ => panic!("no such command to measure: {kind}"),
     };
     match kind {

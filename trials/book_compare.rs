@@ -1,10 +1,11 @@
 //! Compares the proved book with the Rust's: hostile journals, records that are not acceptable, books of other lengths.
 use super::acceptable::is_acceptable;
-use super::book::{BOOK, RECORD, rust_command};
-use super::by_hand::{damaged_records, orders};
-use super::journals::{Mood, change_field, each_command, fields, next, planted, zeroed};
+use super::book::{BOOK, OLD_BOOK, RECORD, rust_command};
+use super::by_hand::{damaged_records, full_windows, moved_prices, orders};
+use super::journals::{Mood, change_field, each_command, fields, move_price, next, planted, zeroed};
 use super::kinds::{Seen, kind, own_record};
 use super::record::high_half;
+use super::slots::{self, Past};
 use super::{Given, Random, give, hex, lanternfold_command};
 use std::collections::BTreeMap;
 
@@ -16,6 +17,7 @@ struct Trial {
     before: Vec<u8>,
     start: Vec<u8>,
     entries: Vec<Vec<u8>>,
+    past: Past,
     seen: Seen,
     tried: u64,
     different: u64,
@@ -33,6 +35,7 @@ impl Trial {
             before: zeroed(),
             start: zeroed(),
             entries: Vec::new(),
+            past: Past::default(),
             seen: Seen::new(),
             tried: 0,
             different: 0,
@@ -48,6 +51,7 @@ impl Trial {
             side.extend_from_slice(book);
         }
         self.entries.clear();
+        self.past.clear();
     }
 
     /// Gives the entry to both sides, and says whether nothing is wrong. Else the journal must end.
@@ -72,6 +76,13 @@ impl Trial {
             if is_good == (rust.0 == 11) {
                 wrong = format!("by 01's text the record is {}acceptable", if is_good { "" } else { "not " });
             }
+            let after = own_record(&self.rust, &entry).unwrap_or(record);
+            if !slots::are_as_due(record, after, &entry, rust) {
+                wrong = "by #103's text the slots are left otherwise".into();
+            } else if rust.0 >= 250 && !is_acceptable(after) {
+                wrong = "an accepted command leaves a record that is not acceptable".into();
+            }
+            self.past.marks(record, &entry, rust).iter().for_each(|mark| self.seen.add(mark));
         }
         if wrong.is_empty() && !self.is_kept(&entry, rust) {
             wrong = "bytes are changed that the answer does not allow".into();
@@ -85,7 +96,8 @@ impl Trial {
 
     /// Whether all but the own record of a command that stores something is as it was. Takes that record over.
     fn is_kept(&mut self, entry: &[u8], rust: Given) -> bool {
-        if rust.0 >= 254 || rust.0 >= 251 && entry[0] == 4 {
+        let (code, is_fix) = (rust.0, entry.first() == Some(&4));
+        if matches!(code, 250 | 254 | 255) || code > 250 && is_fix {
             let at = usize::from(entry[1]) * RECORD;
             self.before[at..at + RECORD].copy_from_slice(&self.rust[at..at + RECORD]);
         }
@@ -151,7 +163,7 @@ fn journals(trial: &mut Trial, random: &mut Random, commands: u64) -> Kept {
         trial.begin(&zeroed);
         let mood = Mood::new(random);
         for _ in 0..10 + random.below(100) {
-            let entry = next(random, &trial.rust, mood);
+            let entry = next(random, &trial.rust, mood, &trial.entries);
             if !trial.both(entry) {
                 break;
             }
@@ -170,7 +182,7 @@ fn planted_journals(trial: &mut Trial, random: &mut Random, commands: u64) {
         trial.begin(&book);
         let mood = Mood::new(random);
         for _ in 0..8 + random.below(24) {
-            let entry = next(random, &trial.rust, mood);
+            let entry = next(random, &trial.rust, mood, &trial.entries);
             if !trial.both(entry) {
                 break;
             }
@@ -186,7 +198,7 @@ fn each_on(trial: &mut Trial, random: &mut Random, book: &[u8], series: u8) {
     }
 }
 
-/// Each byte of each record changed in turn, and each field.
+/// Each byte of each record changed in turn, each field, and what is moved from one slot's price to another.
 fn damaged(trial: &mut Trial, random: &mut Random, records: &[[u8; RECORD]]) {
     let mut book = zeroed();
     for record in records {
@@ -207,11 +219,16 @@ fn damaged(trial: &mut Trial, random: &mut Random, records: &[[u8; RECORD]]) {
                 each_on(trial, random, &book, series);
             }
         }
+        for _ in 0..64 {
+            book[at..at + RECORD].copy_from_slice(record);
+            move_price(random, &mut book[at..at + RECORD]);
+            each_on(trial, random, &book, series);
+        }
         book[at..at + RECORD].fill(0);
     }
 }
 
-/// Entries that could be refused for two reasons, and records that break one condition.
+/// Entries that could be refused for two reasons, records that break one condition, and windows of the greatest prices.
 fn by_hand(trial: &mut Trial, random: &mut Random) {
     let (book, entries) = orders();
     for (entry, number) in entries {
@@ -224,16 +241,29 @@ fn by_hand(trial: &mut Trial, random: &mut Random) {
         book[..RECORD].copy_from_slice(&record);
         each_on(trial, random, &book, 0);
     }
+    for (record, is_good) in moved_prices() {
+        assert_eq!(is_acceptable(&record), is_good, "{}", hex(&record));
+        let mut book = zeroed();
+        book[..RECORD].copy_from_slice(&record);
+        each_on(trial, random, &book, 0);
+    }
+    for entries in full_windows() {
+        trial.begin(&zeroed());
+        for (entry, code) in entries {
+            assert_eq!(give(rust_command, &mut trial.rust.clone(), &entry).0, code, "a full window: {}", hex(&entry));
+            trial.both(entry);
+        }
+    }
 }
 
 /// Books of other lengths, with records in them.
 fn other_lengths(trial: &mut Trial, random: &mut Random, records: &[[u8; RECORD]]) {
     let full: Vec<u8> = records.iter().cycle().flatten().copied().take(2 * BOOK).collect();
-    for len in [0, 1, RECORD, BOOK - RECORD, BOOK - 1, BOOK + 1, 2 * BOOK] {
+    for len in [0, 1, RECORD, OLD_BOOK, BOOK - RECORD, BOOK - 1, BOOK + 1, 2 * BOOK] {
         for _ in 0..200 {
             trial.begin(&full[..len]);
             let mood = Mood::new(random);
-            let entry = next(random, &full[..BOOK], mood);
+            let entry = next(random, &full[..BOOK], mood, &[]);
             trial.both(entry);
         }
     }

@@ -1,39 +1,49 @@
 //! Writes a sample of journals with the Rust's answers to a file, for crates/book_trials to replay; README.md has its
 //! format.
-use super::book::{BOOK, RECORD, rust_command};
-use super::by_hand::{EXPIRY, MAX_CONF_BPS, TERMS, damaged_records, orders, print};
+use super::book::{BOOK, OLD_BOOK, RECORD, rust_command};
+use super::by_hand::{EXPIRY, MAX_CONF_BPS, TERMS, damaged_records, full_windows, moved_prices, orders, print};
 use super::journals::{
-    Mood, ask_entry, change_field, each_command, fields, fix_entry, next, offer_entry, open_entry, planted, zeroed,
+    Mood, ask_entry, change_field, each_command, fields, fix_entry, next, offer_entry, open_entry, planted,
+    withdraw_entry, zeroed,
 };
 use super::kinds::{Seen, kind, own_record};
+use super::slots::Past;
 use super::{BEFORE, Given, Random, give};
 
 /// A journal: the book at its start, and the entries with their answers.
 struct Journal {
     start: Vec<u8>,
     book: Vec<u8>,
-    commands: Vec<(Vec<u8>, Given)>,
+    entries: Vec<Vec<u8>>,
+    answers: Vec<Given>,
+    past: Past,
+    /// The kinds of the answers, and what else is counted of them.
     kinds: Vec<String>,
 }
 
 impl Journal {
     fn on(book: Vec<u8>) -> Self {
-        Self { start: book.clone(), book, commands: Vec::new(), kinds: Vec::new() }
+        let (entries, answers, kinds) = (Vec::new(), Vec::new(), Vec::new());
+        Self { start: book.clone(), book, entries, answers, past: Past::default(), kinds }
     }
 
     fn give(&mut self, entry: Vec<u8>) -> Given {
         let before = own_record(&self.book, &entry).map(<[u8]>::to_vec);
         let given = give(rust_command, &mut self.book, &entry);
         self.kinds.push(kind(before.as_deref(), &entry, given));
-        self.commands.push((entry, given));
+        if let Some(record) = before {
+            self.kinds.extend(self.past.marks(&record, &entry, given).iter().map(|mark| mark.to_string()));
+        }
+        self.entries.push(entry);
+        self.answers.push(given);
         given
     }
 
     fn put(&self, to: &mut Vec<u8>) {
         to.extend((self.start.len() as u32).to_le_bytes());
         put_records(to, &self.start);
-        to.extend((self.commands.len() as u16).to_le_bytes());
-        for (entry, (code, numbers)) in &self.commands {
+        to.extend((self.entries.len() as u16).to_le_bytes());
+        for (entry, (code, numbers)) in self.entries.iter().zip(&self.answers) {
             to.push(entry.len() as u8);
             to.extend(entry);
             to.push(*code);
@@ -73,7 +83,7 @@ impl Sample {
         journal.put(&mut self.bytes);
         journal.kinds.iter().for_each(|kind| self.seen.add(kind));
         self.journals += 1;
-        self.commands += journal.commands.len();
+        self.commands += journal.entries.len();
     }
 
     /// How many of a journal's answers are of kinds that there are too few of.
@@ -119,15 +129,29 @@ fn journal_of_orders() -> Journal {
     journal
 }
 
-/// Records that break one condition, with an open and an ask on each.
+/// Windows of the greatest prices, filled and withdrawn.
+fn full_by_hand(sample: &mut Sample) {
+    for entries in full_windows() {
+        let mut journal = Journal::on(zeroed());
+        for (entry, code) in entries {
+            assert_eq!(journal.give(entry).0, code, "a full window");
+        }
+        sample.keep(&journal);
+    }
+}
+
+/// Records that break one condition, with an open, an ask and a withdrawal on each.
 fn damaged_by_hand(sample: &mut Sample) {
-    for some in damaged_records().chunks(16) {
+    let moved = moved_prices().into_iter().map(|(record, _)| record);
+    let records: Vec<[u8; RECORD]> = damaged_records().into_iter().chain(moved).collect();
+    for some in records.chunks(16) {
         let mut book = zeroed();
         book.chunks_mut(RECORD).zip(some).for_each(|(place, record)| place.copy_from_slice(record));
         let mut journal = Journal::on(book);
         for series in 0..some.len() as u8 {
             journal.give(open_entry(series, TERMS, MAX_CONF_BPS, EXPIRY));
             journal.give(ask_entry(series, 1105));
+            journal.give(withdraw_entry(series, 1105, 3));
         }
         sample.keep(&journal);
     }
@@ -138,7 +162,7 @@ fn hostile(random: &mut Random, book: Vec<u8>, commands: usize) -> Journal {
     let mut journal = Journal::on(book);
     let mood = Mood::new(random);
     for _ in 0..commands {
-        let entry = next(random, &journal.book, mood);
+        let entry = next(random, &journal.book, mood, &journal.entries);
         journal.give(entry);
     }
     journal
@@ -172,11 +196,11 @@ fn damaged(random: &mut Random, sample: &mut Sample) {
 }
 
 fn other_lengths(random: &mut Random, sample: &mut Sample) {
-    for len in [0, 1, RECORD, BOOK - 1, BOOK + 1, 2 * BOOK] {
+    for len in [0, 1, RECORD, OLD_BOOK, BOOK - 1, BOOK + 1, 2 * BOOK] {
         let mut journal = Journal::on(vec![0; len]);
         let mood = Mood::new(random);
         for _ in 0..6 {
-            journal.give(next(random, &zeroed(), mood));
+            journal.give(next(random, &zeroed(), mood, &[]));
         }
         journal.give(Vec::new());
         sample.keep(&journal);
@@ -189,6 +213,7 @@ pub fn record(path: &str, random: &mut Random) -> bool {
     sample.keep(&journal_of_01());
     sample.keep(&journal_of_orders());
     other_lengths(random, &mut sample);
+    full_by_hand(&mut sample);
     damaged_by_hand(&mut sample);
     damaged(random, &mut sample);
     // Journals that have much of what is short come first.

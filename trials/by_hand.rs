@@ -1,7 +1,7 @@
-//! What chance rarely brings: records that break one condition of 01's and keep the rest, and entries that could be
-//! refused for two reasons at once.
-use super::book::{Answer, RECORD, command};
-use super::journals::{Offer, ask_entry, fix_entry, offer_entry, open_entry, zeroed};
+//! What chance rarely brings: records that break one condition of 01's and #103's and keep the rest, entries that could
+//! be refused for two reasons at once, and windows whose every price is the greatest.
+use super::book::{Answer, RECORD, SLOT_PRICES, SLOTS, command};
+use super::journals::{Offer, ask_entry, fix_entry, offer_entry, open_entry, withdraw_entry, zeroed};
 use super::record::Terms;
 
 /// 01's terms and expiry.
@@ -38,7 +38,7 @@ fn record(terms: Terms, prints: &[(i64, i64)], fixed: Option<i64>) -> [u8; RECOR
 
 /// An offset, a width and the number put there, in a record with k = 3, slots 0 and 3, two links and a fallback. Each
 /// breaks one condition, but for a few that just do not.
-const OPEN_CHANGES: [(usize, usize, u64); 52] = [
+const OPEN_CHANGES: [(usize, usize, u64); 56] = [
     // The tag.
     (0, 1, 0),
     (0, 1, 2),
@@ -87,6 +87,11 @@ const OPEN_CHANGES: [(usize, usize, u64); 52] = [
     (136, 8, 1),
     (144, 8, 0),
     (152, 8, 0),
+    // The slot prices: of a filled slot, of an empty one, of the first above the slots and of the last.
+    (200, 8, 200_004),
+    (208, 8, 1),
+    (232, 8, 1),
+    (448, 8, 1),
     // The rest.
     (37, 1, 1),
     (38, 1, 1),
@@ -98,7 +103,7 @@ const OPEN_CHANGES: [(usize, usize, u64); 52] = [
 ];
 
 /// An offset, a width and the number added there, in a record fixed at the first second at which it can be.
-const FIXED_CHANGES: [(usize, usize, u64); 9] = [
+const FIXED_CHANGES: [(usize, usize, u64); 11] = [
     (0, 1, 1),
     (0, 1, 255),
     (10, 2, 1),
@@ -108,6 +113,42 @@ const FIXED_CHANGES: [(usize, usize, u64); 9] = [
     (184, 8, 1),
     (184, 8, u64::MAX),
     (192, 8, 1),
+    (200, 8, 1),
+    (448, 8, 1),
+];
+
+/// What is put into the same record at once, as the bits, the sum and the prices of slots, and whether it is acceptable
+/// then.
+struct Move {
+    bits: u32,
+    sum: u128,
+    prices: &'static [(usize, u64)],
+    is_good: bool,
+}
+
+/// The record has the bits 0b1001 and the price 200,003 at the slots 0 and 3.
+const MOVES: [Move; 17] = [
+    // The same total, split otherwise.
+    Move { bits: 0b1001, sum: 400_006, prices: &[(0, 1), (3, 400_005)], is_good: true },
+    Move { bits: 0b1001, sum: 400_006, prices: &[(0, 0), (3, 400_006)], is_good: false },
+    Move { bits: 0b1001, sum: 400_006, prices: &[(0, 400_006), (3, 0)], is_good: false },
+    Move { bits: 0b1001, sum: 400_006, prices: &[(0, 200_002), (1, 1)], is_good: false },
+    Move { bits: 0b1001, sum: 400_006, prices: &[(0, 200_002), (4, 1)], is_good: false },
+    Move { bits: 0b1001, sum: 400_006, prices: &[(3, 200_002), (31, 1)], is_good: false },
+    // The bits and the prices apart.
+    Move { bits: 0b1011, sum: 400_006, prices: &[], is_good: false },
+    Move { bits: 0b1000, sum: 400_006, prices: &[], is_good: false },
+    Move { bits: 0b1001, sum: 400_006, prices: &[(0, 0), (1, 200_003)], is_good: false },
+    Move { bits: 0b1010, sum: 400_006, prices: &[(0, 0), (1, 200_003)], is_good: true },
+    Move { bits: 0b1000, sum: 200_003, prices: &[(0, 0)], is_good: true },
+    Move { bits: 0, sum: 0, prices: &[(0, 0), (3, 0)], is_good: true },
+    // A sum that is one off, and one whose low half alone is right.
+    Move { bits: 0b1001, sum: 400_007, prices: &[], is_good: false },
+    Move { bits: 0b1001, sum: 400_006, prices: &[(0, u64::MAX), (3, 400_007)], is_good: false },
+    Move { bits: 0b1001, sum: (1 << 64) + 400_006, prices: &[(0, u64::MAX), (3, 400_007)], is_good: true },
+    // Prices that no print has.
+    Move { bits: 0b1001, sum: 1 << 64, prices: &[(0, 1 << 63), (3, 1 << 63)], is_good: true },
+    Move { bits: 0b1001, sum: (1 << 65) - 2, prices: &[(0, u64::MAX), (3, u64::MAX)], is_good: true },
 ];
 
 fn number(record: &[u8], at: usize, width: usize) -> u64 {
@@ -134,9 +175,26 @@ pub fn fixed_records() -> [[u8; RECORD]; 6] {
     ]
 }
 
+/// The open record that is changed.
+fn open_record() -> [u8; RECORD] {
+    record((40, 10, 2, 2, 3, 5, 60, 100, -2), &[SLOT_0, SLOT_3, LINK_0, LINK_1], None)
+}
+
+/// Records with other bits, sum and slot prices, and whether each is acceptable.
+pub fn moved_prices() -> Vec<([u8; RECORD], bool)> {
+    let moved = |to: &Move| {
+        let mut record = open_record();
+        record[32..36].copy_from_slice(&to.bits.to_le_bytes());
+        record[48..64].copy_from_slice(&to.sum.to_le_bytes());
+        to.prices.iter().for_each(|(slot, price)| record = changed(&record, SLOT_PRICES + 8 * slot, 8, *price));
+        (record, to.is_good)
+    };
+    MOVES.iter().map(moved).collect()
+}
+
 /// The damaged records.
 pub fn damaged_records() -> Vec<[u8; RECORD]> {
-    let open = record((40, 10, 2, 2, 3, 5, 60, 100, -2), &[SLOT_0, SLOT_3, LINK_0, LINK_1], None);
+    let open = open_record();
     let mut all: Vec<[u8; RECORD]> =
         OPEN_CHANGES.iter().map(|(at, width, to)| changed(&open, *at, *width, *to)).collect();
     for fixed in fixed_records() {
@@ -144,10 +202,35 @@ pub fn damaged_records() -> Vec<[u8; RECORD]> {
             all.push(changed(&fixed, at, width, number(&fixed, at, width).wrapping_add(more)));
         }
     }
-    // An empty record but for its last byte, and but for its second.
-    all.push(changed(&[0; RECORD], RECORD - 1, 1, 1));
-    all.push(changed(&[0; RECORD], 1, 1, 1));
+    // An empty record but for its last byte, its first slot price, or its second byte.
+    for at in [RECORD - 1, SLOT_PRICES, 1] {
+        all.push(changed(&[0; RECORD], at, 1, 1));
+    }
     all
+}
+
+/// A window of 32 slots of a second each, and the greatest price of a print.
+const FULL_TERMS: Terms = (32, 1, 0, 16, 5, 5, 60, 100, -7);
+const GREATEST: i64 = i64::MAX;
+
+/// Journals with their codes: all 32 slots are filled with the greatest price, then all but one withdrawn, in rising,
+/// falling or mixed order. The sum has each high half from 15 down to 0 on the way.
+pub fn full_windows() -> Vec<Vec<(Vec<u8>, u8)>> {
+    let orders: [fn(u8) -> u8; 3] = [|i| i, |i| 31 - i, |i| 7 * i % 32];
+    orders.map(full_window).into()
+}
+
+fn full_window(order: fn(u8) -> u8) -> Vec<(Vec<u8>, u8)> {
+    let mut entries = vec![(open_entry(63, FULL_TERMS, MAX_CONF_BPS, EXPIRY), 255)];
+    let start = EXPIRY - SLOTS as i64;
+    for i in 0..SLOTS as i64 {
+        let print = Offer { exponent: -7, ..print(1003, GREATEST, start + i, start + i - 1) };
+        entries.push((offer_entry(63, print), 254));
+    }
+    for i in 0..SLOTS as u8 - 1 {
+        entries.push((withdraw_entry(63, 1004 + i64::from(i), order(i)), 250));
+    }
+    entries
 }
 
 /// The series of the book of `orders`: one open, one fixed, one empty, one not acceptable, and one whose window starts
@@ -177,9 +260,12 @@ pub fn orders() -> (Vec<u8>, Vec<(Vec<u8>, u8)>) {
     let mut entries = vec![
         (vec![0, 64], 32),
         ([vec![5, 64], vec![0; 36]].concat(), 32),
+        ([vec![7, 64], vec![0; 9]].concat(), 32),
         (vec![1, 64], 33),
         (vec![3], 33),
         ([vec![4, 255], vec![0; 36]].concat(), 33),
+        ([vec![6, 64], vec![0; 8]].concat(), 33),
+        ([vec![6, 64], vec![0; 10]].concat(), 33),
         (bad_terms(64), 34),
         (offer_entry(255, wrong_price), 34),
         (bad_terms(BAD), 11),
@@ -197,7 +283,21 @@ pub fn orders() -> (Vec<u8>, Vec<(Vec<u8>, u8)>) {
         (offer_entry(EARLY, wrong_times), 13),
         (offer_entry(EARLY, unusable), 0),
         (fix_entry(OPEN, 0), 39),
+        // The open series has the slots 0 to 3, all of them empty.
+        (withdraw_entry(64, 0, 255), 34),
+        (withdraw_entry(OPEN, 0, 3), 41),
+        (withdraw_entry(OPEN, 0, 4), 40),
+        (withdraw_entry(OPEN, 0, 32), 40),
+        (withdraw_entry(OPEN, 0, 255), 40),
     ];
+    // The fixed series has the slots 0 and 3 filled.
+    for slot in [0, 1, 4, 255] {
+        entries.extend([
+            (withdraw_entry(BAD, 0, slot), 11),
+            (withdraw_entry(EMPTY, 0, slot), 37),
+            (withdraw_entry(FIXED, 0, slot), 38),
+        ]);
+    }
     for print in [wrong_price, wrong_exponent, wide, wrong_times] {
         entries.extend([
             (offer_entry(BAD, print), 11),

@@ -1,7 +1,7 @@
-//! Short journals for people to read, each command with the line that 01 gives it, worked out by hand. Written to
+//! Short journals for people to read, each command with the line that 01 and 02 give it, worked out by hand. Written to
 //! crates/sheet_examples/data, with a page that tells them.
 use super::by_hand::{EXPIRY, MAX_CONF_BPS, TERMS, print};
-use super::journals::{Offer, ask_entry, fix_entry, offer_entry, open_entry, zeroed};
+use super::journals::{Offer, ask_entry, fix_entry, offer_entry, open_entry, withdraw_entry, zeroed};
 use super::lines::{feed, write_line};
 use super::record::Terms;
 
@@ -64,6 +64,11 @@ fn ask(series: u8, now: i64, line: &'static str, why: &'static str) -> Step {
 
 fn fix(series: u8, now: i64, line: &'static str, why: &'static str) -> Step {
     Step { words: format!("fix {series} at {now}"), entry: fix_entry(series, now), line, why }
+}
+
+fn withdraw(series: u8, now: i64, slot: u8, line: &'static str, why: &'static str) -> Step {
+    let entry = withdraw_entry(series, now, slot);
+    Step { words: format!("withdraw {series} at {now}: slot {slot}"), entry, line, why }
 }
 
 // ---- the examples
@@ -304,7 +309,61 @@ fn before_1970() -> Example {
     Example { name: "before_1970", about, steps }
 }
 
-pub fn examples() -> [Example; 9] {
+fn challenged() -> Example {
+    let tail = Step {
+        words: "the first 10 bytes of withdraw 5 at 1106: slot 0".into(),
+        entry: withdraw_entry(5, 1106, 0)[..10].to_vec(),
+        line: "refused 33",
+        why: "a short tail, which ends the journal",
+    };
+    let steps = vec![
+        withdraw(3, 950, 0, "refused 37", "the series is empty"),
+        open(3, EXPIRY, "opened 3", ""),
+        withdraw(3, 951, 0, "refused 41", "the slot is empty"),
+        offer(3, 962, 200_000, 962, 959, "used 3 0 - 1", ""),
+        offer(3, 991, 250_000, 990, 989, "used 3 3 - 1", "the price that will be challenged"),
+        ask(3, 1001, "wait 3 1005", "2 slots, the minimum: from max(1000, 991) + 5"),
+        offer(3, 1002, 200_003, 990, 989, "refused 14", "slot 3 is filled, and the fallback is of 990 too"),
+        withdraw(3, 1003, 3, "done", "the delay was still running"),
+        ask(3, 1005, "wait 3 1100", "1 slot of the minimum 2, no link: Wait H; the refused print did not come back"),
+        withdraw(3, 1006, 3, "refused 41", "free already"),
+        withdraw(3, 1006, 4, "refused 40", "the slots are 0 to 3"),
+        offer(3, 1006, 200_003, 990, 989, "used 3 3 - 0", "offered again, it takes the free slot; the fallback stays"),
+        ask(3, 1007, "wait 3 1011", "from max(1000, 1006) + 5"),
+        withdraw(3, 1008, 0, "done", ""),
+        offer(3, 1009, 200_000, 962, 959, "used 3 0 - 0", "the print that was withdrawn fills its slot again"),
+        fix(3, 1013, "refused 39", "from max(1000, 1009) + 5"),
+        fix(3, 1014, "settle 3 0 2000015000 2", "the mean of 200000 and 200003: 250000 left the sum"),
+        withdraw(3, 1015, 0, "refused 38", "fixed"),
+        withdraw(3, 1015, 4, "refused 38", "fixed comes before the slot's number"),
+        open(4, EXPIRY, "opened 4", ""),
+        offer(4, 962, 200_000, 962, 959, "used 4 0 - 1", ""),
+        offer(4, 1003, 200_100, 1001, 1000, "used 4 - 0 0", ""),
+        withdraw(4, 1102, 0, "done", "the last slot, after H"),
+        ask(4, 1104, "wait 4 1105", "the link remains: from max(1100, 1003) + 5, not prolonged"),
+        fix(4, 1105, "settle 4 2 2001000000 1", ""),
+        open(5, EXPIRY, "opened 5", ""),
+        offer(5, 962, 200_000, 962, 959, "used 5 0 - 1", ""),
+        offer(5, 972, 200_100, 972, 969, "used 5 1 - 1", ""),
+        offer(5, 1003, 200_200, 981, 979, "used 5 2 - 1", ""),
+        ask(5, 1004, "wait 5 1008", "3 slots: from max(1000, 1003) + 5"),
+        withdraw(5, 995, 2, "done", "with an earlier now, which is the window's changed time all the same"),
+        ask(5, 1004, "wait 5 1005", "2 slots: from max(1000, 995) + 5"),
+        ask(5, 1005, "settle 5 0 2000500000 2", "the mean of 200000 and 200100"),
+        withdraw(5, 1005, 1, "done", "not fixed yet, so still allowed"),
+        ask(5, 1005, "wait 5 1100", "1 slot: the price is gone, Wait H"),
+        withdraw(5, i64::MIN, 0, "done", "the last slot; any now will do"),
+        ask(5, 1100, "wait 5 1105", "no slot, no link; the fallback of 981 remains: from max(1100, 1003) + 5"),
+        fix(5, 1105, "settle 5 4 2002000000 1", "its print was withdrawn from slot 2 only"),
+        withdraw(64, 1106, 0, "refused 34", "the last series is 63"),
+        tail,
+    ];
+    let about = "Request #103: a slot is withdrawn and may be filled again, by the same print or another. The link and the \
+                 fallback remain.";
+    Example { name: "withdraw", about, steps }
+}
+
+pub fn examples() -> [Example; 10] {
     [
         paper(),
         window(),
@@ -315,6 +374,7 @@ pub fn examples() -> [Example; 9] {
         void(),
         hostile_day(),
         before_1970(),
+        challenged(),
     ]
 }
 
@@ -322,11 +382,11 @@ pub fn examples() -> [Example; 9] {
 
 const PAGE: &str = "# Examples
 
-Journals (`NAME.journal`, bytes as docs/FORMATS.md has them) and the lines that the program `sheet` prints for them (`NAME.sheet`). The lines were worked out by hand from document 01. `trials/run record examples crates/sheet_examples/data` writes the files and this page; if the Rust's lines differ it fails, and writes nothing.
+Journals (`NAME.journal`, bytes as docs/FORMATS.md has them) and the lines that the program `sheet` prints for them (`NAME.sheet`). The lines were worked out by hand from documents 01 and 02. `trials/run record examples crates/sheet_examples/data` writes the files and this page; if the Rust's lines differ it fails, and writes nothing.
 
 Terms P are those of 01: window 40, slot 10, tolerance 2, minimum 2, k 2, D 5, lookback 60, hard 100, e −2, bps 100. With E = 1000 the boundaries of the slots 0 to 3 are 960, 970, 980 and 990, and H is 1100. An offer has conf 0 and the exponent of its series unless the table says otherwise; a price of 200000 is 2000.00 USD.
 
-A line: `opened`, series; `used`, series, slot, link, fallback; `wait`, series, until; `settle`, series, method, price in USDC atoms (10^−6 USD), samples; `void`, series; `refused`, number.
+A line: `opened`, series; `used`, series, slot, link, fallback; `wait`, series, until; `settle`, series, method, price in USDC atoms (10^−6 USD), samples; `void`, series; `done` alone; `refused`, number.
 ";
 
 /// The sheet of the Rust book, of a whole journal or of its first bytes.

@@ -1,5 +1,5 @@
 //! Hostile journals: each entry is chosen by what the book holds, at the few seconds where an answer changes.
-use super::book::{BOOK, RECORD, Series};
+use super::book::{BOOK, OFFER_WIDTH, RECORD, SLOT_PRICES, SLOTS, Series, put_slot_price};
 use super::record::{self, TERMS, Terms, params, terms_bytes};
 use super::{BPS, Random, TIMES, confidences};
 use metalbook_core::UnixTimestamp;
@@ -42,6 +42,10 @@ pub fn ask_entry(series: u8, now: i64) -> Vec<u8> {
 
 pub fn fix_entry(series: u8, now: i64) -> Vec<u8> {
     [[4, series].as_slice(), &now.to_le_bytes()].concat()
+}
+
+pub fn withdraw_entry(series: u8, now: i64, slot: u8) -> Vec<u8> {
+    [[6, series].as_slice(), &now.to_le_bytes(), &[slot]].concat()
 }
 
 // ---- what a record says
@@ -127,8 +131,10 @@ impl View {
 pub struct Mood {
     /// How many series are used, from 0 on.
     series: u64,
-    /// How many offers come for each four commands of other kinds to an open series.
+    /// How many offers come for each four asks, fixes and opens to an open series.
     offers: u64,
+    /// How many withdrawals come for each eight of these.
+    withdrawals: u64,
     /// How often a print is meant for a slot, a link, the fallback or anything.
     aims: [u64; 4],
     /// Whether prices are so high that a mean may not fit.
@@ -143,6 +149,7 @@ impl Mood {
         Self {
             series: random.pick(&[1, 2, 2, 4]),
             offers: random.pick(&[0, 2, 6, 12, 20, 40]),
+            withdrawals: random.pick(&[0, 1, 1, 4, 8]),
             aims: random.pick(&AIMS),
             is_dear: random.below(4) == 0,
         }
@@ -195,17 +202,22 @@ fn taken_at(random: &mut Random, v: &View) -> i64 {
     }
 }
 
-fn offer(random: &mut Random, series: u8, v: &View, mood: Mood) -> Vec<u8> {
-    let mut roll = random.below(mood.aims.iter().sum());
-    let aim = mood.aims.iter().position(|weight| {
+/// A number below that of the weights, each as often as its weight says.
+fn drawn(random: &mut Random, weights: &[u64]) -> usize {
+    let mut roll = random.below(weights.iter().sum());
+    let place = weights.iter().position(|weight| {
         let is_it = roll < *weight;
         roll = roll.wrapping_sub(*weight);
         is_it
     });
-    let (published, prev) = match aim {
-        Some(0) => slot_times(random, v),
-        Some(1) => link_times(random, v),
-        Some(2) => fallback_times(random, v),
+    place.expect("a roll below the sum of the weights")
+}
+
+fn offer(random: &mut Random, series: u8, v: &View, mood: Mood) -> Vec<u8> {
+    let (published, prev) = match drawn(random, &mood.aims) {
+        0 => slot_times(random, v),
+        1 => link_times(random, v),
+        2 => fallback_times(random, v),
         _ => any_times(random, v),
     };
     // Near the low end of the range no time that a rule names is one that a print can have.
@@ -257,6 +269,21 @@ fn asked_at(random: &mut Random, v: &View) -> i64 {
     at.saturating_add(random.pick(&[0, 0, -1, 1]))
 }
 
+/// Mostly the withdrawal of a filled slot; else of any, of one just above the slots, or of one that no series has, such
+/// as 32 above a filled slot.
+fn withdraw(random: &mut Random, series: u8, v: &View) -> Vec<u8> {
+    let filled: Vec<u8> = (0..SLOTS as u8).filter(|i| v.bits >> i & 1 == 1).collect();
+    let slots = v.slots() as u8;
+    let any = random.below(u64::from(slots)) as u8;
+    let one = if filled.is_empty() { any } else { random.pick(&filled) };
+    let slot = match random.below(8) {
+        0 => random.pick(&[slots - 1, slots, slots + 1, 31, 32, one + 32, one + 64, 128, 255]),
+        1 => any,
+        _ => one,
+    };
+    withdraw_entry(series, taken_at(random, v), slot)
+}
+
 /// A command of its width.
 fn command(random: &mut Random, book: &[u8], mood: Mood) -> Vec<u8> {
     let series = match random.below(24) {
@@ -273,21 +300,18 @@ pub fn command_to(random: &mut Random, book: &[u8], series: u8, mood: Mood) -> V
     let at = usize::from(series % 64) * RECORD;
     let record = &book[at..at + RECORD];
     let v = View::of(record);
-    // How often each of offer, ask, fix and open comes.
+    // How often each of offer, ask, fix, withdraw and open comes.
     let weights = match record[0] {
-        0 => [1, 1, 1, 21],
-        1 => [2 * mood.offers, 4, 3, 1],
-        _ => [2, 3, 2, 2],
+        0 => [1, 1, 1, 1, 20],
+        1 => [2 * mood.offers, 4, 3, mood.withdrawals, 1],
+        _ => [2, 3, 2, 1, 2],
     };
-    let roll = random.below(weights.iter().sum());
-    if roll < weights[0] {
-        offer(random, series, &v, mood)
-    } else if roll < weights[0] + weights[1] {
-        ask_entry(series, asked_at(random, &v))
-    } else if roll < weights[0] + weights[1] + weights[2] {
-        fix_entry(series, asked_at(random, &v))
-    } else {
-        open(random, series)
+    match drawn(random, &weights) {
+        0 => offer(random, series, &v, mood),
+        1 => ask_entry(series, asked_at(random, &v)),
+        2 => fix_entry(series, asked_at(random, &v)),
+        3 => withdraw(random, series, &v),
+        _ => open(random, series),
     }
 }
 
@@ -300,8 +324,8 @@ fn misshapen(random: &mut Random, entry: &mut Vec<u8>) {
         3 => entry.truncate(random.below(entry.len() as u64) as usize),
         4 => entry.resize(60, 0),
         // Mostly another command's width.
-        5 => entry[0] = 1 + random.below(4) as u8,
-        6 => entry[0] = random.pick(&[0, 5, 6, 128, 255]),
+        5 => entry[0] = random.pick(&[1, 2, 3, 4, 6]),
+        6 => entry[0] = random.pick(&[0, 5, 7, 128, 255]),
         _ => *entry = vec![random.next() as u8],
     }
     // Also a series that there is not, so that the order of the refusals matters.
@@ -310,9 +334,22 @@ fn misshapen(random: &mut Random, entry: &mut Vec<u8>) {
     }
 }
 
-/// The next entry of a journal, after those that left this book.
-pub fn next(random: &mut Random, book: &[u8], mood: Mood) -> Vec<u8> {
-    let mut entry = command(random, book, mood);
+/// A print that was offered before, at another time: where its slot was withdrawn, it may fill it again.
+fn again(random: &mut Random, book: &[u8], past: &[Vec<u8>]) -> Option<Vec<u8>> {
+    let mut entry = past.get(random.below(past.len() as u64 + 1) as usize)?.clone();
+    if entry.len() != OFFER_WIDTH || entry[0] != 2 {
+        return None;
+    }
+    let record = &book[usize::from(entry[1] % 64) * RECORD..][..RECORD];
+    let now = taken_at(random, &View::of(record));
+    entry[2..10].copy_from_slice(&now.to_le_bytes());
+    Some(entry)
+}
+
+/// The next entry of a journal, after these, which left this book.
+pub fn next(random: &mut Random, book: &[u8], mood: Mood, past: &[Vec<u8>]) -> Vec<u8> {
+    let repeat = if random.below(12) == 0 { again(random, book, past) } else { None };
+    let mut entry = repeat.unwrap_or_else(|| command(random, book, mood));
     if random.below(24) == 0 {
         misshapen(random, &mut entry);
     }
@@ -320,25 +357,61 @@ pub fn next(random: &mut Random, book: &[u8], mood: Mood) -> Vec<u8> {
 }
 
 /// One command of each kind on a series, at times that its record makes likely to matter.
-pub fn each_command(random: &mut Random, book: &[u8], series: u8) -> [Vec<u8>; 4] {
+pub fn each_command(random: &mut Random, book: &[u8], series: u8) -> [Vec<u8>; 5] {
     let at = usize::from(series) * RECORD;
     let v = View::of(&book[at..at + RECORD]);
     let mood = Mood::new(random);
     let now = asked_at(random, &v);
-    [open(random, series), offer(random, series, &v, mood), ask_entry(series, now), fix_entry(series, now)]
+    let (ask, fix) = (ask_entry(series, now), fix_entry(series, now));
+    [open(random, series), offer(random, series, &v, mood), ask, fix, withdraw(random, series, &v)]
 }
 
 // ---- records that stand in the book at the start
 
-/// An acceptable record, open or fixed, that a list of prints need not leave: the state is any that `restore` takes.
+/// Prices above zero for so many slots. Their total is this sum where it can be, so that a mean just fits or just does
+/// not; else they are at an end of their range, or near the greatest price of a print.
+fn slot_prices(random: &mut Random, sum: u128, slots: u32) -> Vec<u64> {
+    let (n, greatest) = (u128::from(slots), u128::from(u64::MAX));
+    let mut prices: Vec<u64> = if n <= sum && sum <= n * greatest {
+        let (each, rest) = (sum / n, sum % n);
+        (0..n).map(|i| (each + u128::from(i < rest)) as u64).collect()
+    } else {
+        let top = random.pick(&[1 << 63, 1 << 63, u64::MAX, 3]);
+        (0..slots).map(|_| top - random.below(3)).collect()
+    };
+    // From one slot to another, as much as both can bear.
+    let [from, to] = [0; 2].map(|_| random.below(u64::from(slots)) as usize);
+    let most = (prices[from] - 1).min(u64::MAX - prices[to]);
+    let moved = random.pick(&[0, 1, most / 2, most]).min(most);
+    prices[from] -= moved;
+    prices[to] += moved;
+    prices
+}
+
+/// The prices of all 32 slots, for these bits.
+fn all_slot_prices(random: &mut Random, sum: u128, bits: u32) -> [u64; SLOTS] {
+    let mut all = [0; SLOTS];
+    if bits != 0 {
+        let prices = slot_prices(random, sum, bits.count_ones());
+        let filled = (0..SLOTS).filter(|i| bits >> i & 1 == 1);
+        filled.zip(prices).for_each(|(i, price)| all[i] = price);
+    }
+    all
+}
+
+/// An acceptable record, open or fixed, that a list of prints need not leave: the state is any that `restore` takes
+/// with slot prices for its sum.
 pub fn planted(random: &mut Random) -> [u8; RECORD] {
-    let s = record::series(random);
+    let mut s = record::series(random);
+    let prices = all_slot_prices(random, s.parts.sample_sum, s.parts.filled_slots);
+    s.parts.sample_sum = prices.iter().map(|price| u128::from(*price)).sum();
     let max_conf_bps = random.pick(&BPS);
     let series = Series { params: s.terms, max_conf_bps, expiry: UnixTimestamp::new(s.expiry), state: s.state() };
     let mut bytes = [0; RECORD];
     if random.below(2) == 0 || series.write_fixed(&mut bytes, record::asked(random, &s)).is_err() {
         series.write_open(&mut bytes);
     }
+    prices.iter().enumerate().for_each(|(slot, price)| put_slot_price(&mut bytes, slot, *price));
     bytes
 }
 
@@ -360,6 +433,20 @@ pub fn change_field(random: &mut Random, bytes: &mut [u8], (at, width): (usize, 
     let one_bit = 1 << random.below(8 * width as u64);
     let to = random.pick(&[now.wrapping_add(1), now.wrapping_sub(1), 0, 1, u64::MAX, before, now ^ one_bit]);
     bytes[at..at + width].copy_from_slice(&to.to_le_bytes()[..width]);
+}
+
+/// Adds an amount to a slot's price, and takes it off another's or adds it to the sum too. So the sum stays the total,
+/// unless a number wraps around, and what is wrong may be only which slots have a price.
+pub fn move_price(random: &mut Random, bytes: &mut [u8]) {
+    let [from, to] = [0; 2].map(|_| SLOT_PRICES + 8 * random.below(SLOTS as u64) as usize);
+    let [there, here] = [from, to].map(|at| i64_at(bytes, at));
+    let any = random.next() as i64;
+    let amount = random.pick(&[1, there, here.wrapping_neg(), i64::MIN, any]);
+    let (other, change) = if random.below(4) == 0 { (48, amount) } else { (from, amount.wrapping_neg()) };
+    for (at, more) in [(to, amount), (other, change)] {
+        let number = i64_at(bytes, at).wrapping_add(more);
+        bytes[at..at + 8].copy_from_slice(&number.to_le_bytes());
+    }
 }
 
 /// A zeroed book.

@@ -1,9 +1,12 @@
-//! The kinds of answers that a command can give: each must be seen when the sides are compared, and be in the sample.
+//! The kinds of answers that a command can give, and what else is counted: each must be seen when the sides are compared,
+//! and be in the sample.
 use super::Given;
-use super::book::{ASK_WIDTH, Answer, BOOK, OFFER_WIDTH, OPEN_WIDTH, RECORD, command};
+use super::book::{
+    ASK_WIDTH, Answer, BOOK, OFFER_WIDTH, OPEN_WIDTH, RECORD, SLOT_PRICES, SLOTS, WITHDRAW_WIDTH, command,
+};
 
 /// Every kind, and how many of it the sample has at least.
-pub const KINDS: [(&str, u32); 64] = [
+pub const KINDS: [(&str, u32); 81] = [
     ("refused 35", 20),
     ("refused 33: empty", 6),
     ("refused 32", 10),
@@ -23,8 +26,7 @@ pub const KINDS: [(&str, u32); 64] = [
     ("offer refused 13: the times", 12),
     ("offer refused 16", 8),
     ("offer refused 17", 12),
-    ("offer refused 0: a time", 12),
-    ("offer refused 0: the sum", 4),
+    ("offer refused 0", 12),
     ("offer refused 14", 60),
     ("offer Used slot", 20),
     ("offer Used link", 40),
@@ -68,6 +70,24 @@ pub const KINDS: [(&str, u32); 64] = [
     ("fix Settle PartialWindow", 10),
     ("fix Settle Fallback", 10),
     ("fix Void", 10),
+    ("withdraw refused 33", 6),
+    ("withdraw refused 34", 6),
+    ("withdraw refused 11", 20),
+    ("withdraw refused 37", 8),
+    ("withdraw refused 38", 12),
+    ("withdraw refused 40: below 32", 10),
+    ("withdraw refused 40: 32 or above", 10),
+    ("withdraw refused 41", 12),
+    ("withdraw Done", 40),
+    ("withdrawn: the last slot", 10),
+    ("withdrawn: the high half is borrowed from", 10),
+    ("withdrawn: a Settle could be had", 10),
+    ("withdrawn: a Settle becomes a Wait", 8),
+    ("withdrawn: window changed is lowered", 10),
+    ("withdrawn: at the first second that there is", 2),
+    ("withdrawn: at the last second that there is", 2),
+    ("filled again by the same print", 8),
+    ("filled again by another print", 8),
 ];
 
 fn i64_at(b: &[u8], at: usize) -> i64 {
@@ -87,23 +107,26 @@ fn is_time(record: &[u8], entry: &[u8]) -> bool {
     let mut book = [0; BOOK];
     let at = usize::from(entry[1]) * RECORD;
     book[at..at + RECORD].copy_from_slice(record);
-    for price in [48, 104, 112, 120, 128, 136, 152] {
-        let bytes = &mut book[at + price..at + price + if price == 48 { 16 } else { 8 }];
-        let one = u8::from(bytes.iter().any(|b| *b != 0));
-        bytes.fill(0);
-        bytes[0] = one;
+    let own = &mut book[at..at + RECORD];
+    let slots = (0..SLOTS).map(|i| SLOT_PRICES + 8 * i);
+    for price in [104, 112, 120, 128, 136, 152].into_iter().chain(slots) {
+        let one = u8::from(own[price..price + 8].iter().any(|b| *b != 0));
+        own[price..price + 8].fill(0);
+        own[price] = one;
     }
+    own[48..64].fill(0);
+    own[48] = u32_at(record, 32).count_ones() as u8;
     command(&mut book, entry) == Answer::Refused(0)
 }
 
 /// The refusal's number, and why where one number has several reasons.
 fn refused(record: &[u8], entry: &[u8], number: u8) -> String {
-    let fits = |at: usize| i64_at(record, 40).checked_sub(i64::from(u32_at(record, at))).is_some();
     let why = match (number, entry[0]) {
         (36, _) => [": open", ": fixed"][usize::from(record[0] == 2)],
         (13, _) => [": the times", ": the price"][usize::from(i64_at(entry, 10) <= 0)],
-        (0, 2) => [": a time", ": the sum"][usize::from(fits(12) && fits(24))],
-        (0, _) => [": the price", ": a time"][usize::from(is_time(record, entry))],
+        (40, _) => [": below 32", ": 32 or above"][usize::from(entry[10] >= SLOTS as u8)],
+        // With an offer it is always a time: 32 prices can't reach 2^128.
+        (0, 3 | 4) => [": the price", ": a time"][usize::from(is_time(record, entry))],
         _ => "",
     };
     format!("refused {number}{why}")
@@ -133,7 +156,7 @@ pub fn kind(record: Option<&[u8]>, entry: &[u8], given: Given) -> String {
         (33, None) => return "refused 33: empty".into(),
         _ => (),
     }
-    let name = ["", "open", "offer", "ask", "fix"][usize::from(entry[0])];
+    let name = ["", "open", "offer", "ask", "fix", "", "withdraw"][usize::from(entry[0])];
     let Some(record) = record else {
         return format!("{name} refused {code}");
     };
@@ -143,6 +166,7 @@ pub fn kind(record: Option<&[u8]>, entry: &[u8], given: Given) -> String {
         253 => wait(record, numbers[0] as i64).into(),
         252 => format!("Settle {}", METHODS[numbers[0] as usize]),
         251 => "Void".into(),
+        250 => "Done".into(),
         _ => refused(record, entry, code),
     };
     let when = if entry[0] == 3 && record[0] == 2 && code > 250 { " when fixed" } else { "" };
@@ -157,6 +181,7 @@ pub fn own_record<'a>(book: &'a [u8], entry: &[u8]) -> Option<&'a [u8]> {
         1 => OPEN_WIDTH,
         2 => OFFER_WIDTH,
         3 | 4 => ASK_WIDTH,
+        6 => WITHDRAW_WIDTH,
         _ => return None,
     };
     let at = usize::from(*entry.get(1)?) * RECORD;

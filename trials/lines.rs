@@ -1,5 +1,5 @@
 //! A journal's entries with the book's answers, and the line of text of each answer.
-use super::book::{ASK_WIDTH, Answer, OFFER_WIDTH, OPEN_WIDTH, command};
+use super::book::{ASK_WIDTH, Answer, OFFER_WIDTH, OPEN_WIDTH, WITHDRAW_WIDTH, command};
 use std::fmt;
 use std::io::{self, Write};
 
@@ -9,6 +9,7 @@ fn width(byte: u8) -> usize {
         0x01 => OPEN_WIDTH,
         0x02 => OFFER_WIDTH,
         0x03 | 0x04 => ASK_WIDTH,
+        0x06 => WITHDRAW_WIDTH,
         _ => 1,
     }
 }
@@ -76,6 +77,7 @@ pub fn write_line(to: &mut impl Write, entry: &[u8], answer: Answer) -> io::Resu
             writeln!(to, "settle {series} {} {} {samples}", method as u8, price.get())
         }
         Answer::Void => writeln!(to, "void {series}"),
+        Answer::Done => writeln!(to, "done"),
         Answer::Refused(number) => writeln!(to, "refused {number}"),
     }
 }

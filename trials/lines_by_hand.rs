@@ -86,6 +86,7 @@ pub fn write_line(to: &mut impl Write, entry: &[u8], answer: Answer) -> io::Resu
             line.field(series);
             line.word(b"void");
         }
+        Answer::Done => line.word(b"done"),
         Answer::Refused(number) => {
             line.field(number);
             line.word(b"refused");

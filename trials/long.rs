@@ -20,10 +20,12 @@ fn is_step(record: &[u8], entry: &[u8], used: PrintUse) -> bool {
 }
 
 /// Whether an entry is kept. What a series takes only so often (its slots, its links, its fixing) is kept by chance, and
-/// the more seldom the more commands come to a series (`life`), so that none is soon used up.
+/// the more seldom the more commands come to a series (`life`), so that none is soon used up. So is a withdrawal, or no
+/// slot would stay filled for long.
 fn is_kept(random: &mut Random, record: &[u8], entry: &[u8], answer: Answer, life: u64) -> bool {
     match answer {
         Answer::Used(used) if is_step(record, entry, used) => random.below(1 + life / 200) == 0,
+        Answer::Done => random.below(1 + life / 200) == 0,
         Answer::Settle { .. } | Answer::Void if entry[0] == 4 => random.below(1 + life / 16) == 0,
         _ => true,
     }

@@ -12,6 +12,7 @@ mod lines;
 mod long;
 mod record;
 mod sheet_compare;
+mod slots;
 
 use metalbook_core::{accept_print, to_atoms};
 use std::collections::BTreeMap;

@@ -16,7 +16,7 @@ use std::time::{Duration, Instant};
 
 /// Every kind of line that a journal can have, by the command and the answer. 11, 35 and a print that is a link and
 /// something else too are not among them: no journal from a zeroed book comes to these.
-const KINDS: [&str; 41] = [
+const KINDS: [&str; 48] = [
     "open opened",
     "open refused 34",
     "open refused 36",
@@ -54,10 +54,17 @@ const KINDS: [&str; 41] = [
     "fix refused 38",
     "fix refused 0",
     "fix refused 39",
+    "withdraw done",
+    "withdraw refused 34",
+    "withdraw refused 37",
+    "withdraw refused 38",
+    "withdraw refused 40",
+    "withdraw refused 41",
     "unknown refused 32",
     "short open refused 33",
     "short offer refused 33",
     "short ask or fix refused 33",
+    "short withdraw refused 33",
 ];
 
 /// The journals of a trial: one long hostile one, many that are shorter, a plain day, and short ones with every end.
@@ -84,6 +91,7 @@ fn kind(entry: &[u8], line: &str) -> String {
         3 if entry.len() == 10 => "ask",
         4 if entry.len() == 10 => "fix",
         3 | 4 => "ask or fix",
+        6 => "withdraw",
         _ => "unknown",
     };
     let words: Vec<&str> = line.split(' ').collect();
@@ -337,7 +345,7 @@ fn pieces(trial: &mut Trial, random: &mut Random) -> Result<(), String> {
     for turn in 0..24 {
         let mut journal = hostile(random, 400);
         match turn % 3 {
-            0 => journal.push(random.pick(&[0, 5, 255])),
+            0 => journal.push(random.pick(&[0, 5, 7, 255])),
             1 => journal.extend(&hostile(random, 1)[..9]),
             _ => (),
         }
@@ -362,10 +370,13 @@ fn some(random: &mut Random, lengths: &[u64]) -> Vec<u8> {
     hostile(random, commands)
 }
 
+/// The bytes of the commands that there are.
+const COMMANDS: [u8; 5] = [1, 2, 3, 4, 6];
+
 /// Journals that end in every way: with nothing, with each unknown byte, with a tail of each length of each command.
 fn ends_of_journals(trial: &mut Trial, random: &mut Random) -> Result<(), String> {
     trial.both(SHORT, &[])?;
-    for byte in (0..=255).filter(|b| !(1..=4).contains(b)) {
+    for byte in (0..=255).filter(|b| !COMMANDS.contains(b)) {
         let mut journal = some(random, &[0, 1, 5, 30]);
         journal.push(byte);
         trial.both(SHORT, &journal)?;
@@ -373,7 +384,7 @@ fn ends_of_journals(trial: &mut Trial, random: &mut Random) -> Result<(), String
         journal.extend(some(random, &[1, 3000]));
         trial.both(SHORT, &journal)?;
     }
-    for byte in 1..=4 {
+    for byte in COMMANDS {
         let whole = command_of(random, byte);
         for length in 1..whole.len() {
             let mut journal = some(random, &[0, 1, 5, 30, 3000]);
@@ -514,6 +525,9 @@ fn by_hand(trial: &mut Trial) -> Result<(), String> {
     Ok(())
 }
 
+/// The one long journal has a seed of its own: with it some of the 64 openings are so early that no print fits.
+const ONE_SEED: u64 = 88_172_645_463_325_253;
+
 fn all(trial: &mut Trial, random: &mut Random) -> Result<(), String> {
     by_hand(trial)?;
     ends_of_journals(trial, random)?;
@@ -522,7 +536,7 @@ fn all(trial: &mut Trial, random: &mut Random) -> Result<(), String> {
     for _ in 0..LONG / EACH {
         trial.both(MANY, &hostile(random, EACH))?;
     }
-    trial.both(ONE, &hostile(random, LONG))?;
+    trial.both(ONE, &hostile(&mut Random(ONE_SEED), LONG))?;
     trial.both(DAY, &day(random, LONG))?;
     Ok(())
 }

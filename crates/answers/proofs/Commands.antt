@@ -2,6 +2,7 @@
 use Prim.Native.Nat.{ℕ}
 use mathlib.Core.Path.{_≡_, refl, sym, ap, _∙_}
 use mathlib.Core.Bool.{Bool, true, false, _&&_}
+use mathlib.Core.List.{List}
 use lib.ListN.{length}
 use lib.IntN.{ℤ}
 use Rattle.rules.specs.Log.{if_then_else_}
@@ -9,8 +10,8 @@ use Rattle.rules.specs.Bytes.{Bytes}
 use Rattle.rules.specs.Answers.{Result, ok, refused}
 use Rattle.rules.specs.Terms.{goodTerms}
 use Rattle.rules.specs.State.{Parts, candidatesOf, partsOf, goodState, decideCall}
-use Rattle.rules.specs.Series.{Command, Opening, Series, live}
-use Rattle.rules.specs.Record.{openingIn, partsIn}
+use Rattle.rules.specs.Series.{Command, Opening, Holdings, Series, live}
+use Rattle.rules.specs.Record.{goodPrices, openingIn, partsIn, pricesIn, holdingsIn}
 use Rattle.rules.specs.Book.{recordAt, look, storedAnswer, written}
 use Rattle.rules.proofs.State.{parts-kept}
 use Rattle.core_decide.specs.declared.decide.Decision.{Decision}
@@ -22,7 +23,7 @@ use Rattle.record_read.specs.Records.{Held, contentsFrom}
 use Rattle.record_test.specs.Statuses.{statusAs, statusIn, storedAt, decisionIn}
 use Rattle.book.proofs.Looks.{partAt, part-is, allowed-part}
 use Rattle.record_read.proofs.Records.{contents-looked}
-use Rattle.record_test.proofs.Statuses.{status-found, isRefused, not-refused, decision-of}
+use Rattle.record_test.proofs.Statuses.{untested-priced, status-found, isRefused, not-refused, looked, decision-of}
 use Rattle.answers.specs.Commands.{Untested, answerAt, afterAt, bookAnswer}
 
 -- a decision is no refusal
@@ -51,12 +52,16 @@ module _ (book : Bytes) (s : ℕ) {r st : Status} (h : r ≡ statusIn (look book
 
 -- ---- a record that is still to be tested, by what was read of it
 
--- what is stored, by the tests of the terms and of the state
-abbrev pub testedAs : Bool → Opening → Parts → Result Series
-testedAs b o p = if b then ok (live o (candidatesOf p)) else refused 11
+-- the state and the slot prices
+abbrev pub holding : Parts → List ℕ → Holdings
+holding p prices = record { candidates = candidatesOf p; slotPrices = prices }
 
-abbrev pub tested : Opening → Parts → Result Series
-tested o p = testedAs (goodTerms (o .terms) && goodState (o .terms) p) o p
+-- what is stored, by the tests of the terms and of the state
+abbrev pub testedAs : Bool → Opening → Parts → List ℕ → Result Series
+testedAs b o p prices = if b then ok (live o (holding p prices)) else refused 11
+
+abbrev pub tested : Opening → Parts → List ℕ → Result Series
+tested o p prices = testedAs (goodTerms (o .terms) && goodState (o .terms) p) o p prices
 
 module _ (book : Bytes) (s : ℕ) (h : Untested book s) where
   pub may-look : Allowed book s
@@ -65,8 +70,12 @@ module _ (book : Bytes) (s : ℕ) (h : Untested book s) where
   abbrev bs : Bytes
   bs = recordAt s book
 
-  pub open-found : tested (openingIn bs) (partsIn bs) ≡ storedAt book s
+  pub open-found : tested (openingIn bs) (partsIn bs) (pricesIn bs) ≡ storedAt book s
   open-found = ap (λ (x : Status). statusAs x bs) (sym h) ∙ status-found book s
+
+  -- its slot prices were tested
+  pub open-priced : goodPrices (holdingsIn bs) ≡ true
+  open-priced = untested-priced bs (sym (looked book s may-look) ∙ h)
 
   -- its state goes back into the same bytes
   pub open-kept : goodState (openingIn bs .terms) (partsIn bs) ≡ true → partsOf (candidatesOf (partsIn bs)) ≡ partsIn bs
@@ -74,8 +83,8 @@ module _ (book : Bytes) (s : ℕ) (h : Untested book s) where
   open-kept g = parts-kept (openingIn bs .terms) (partsIn bs) g refl refl
 
   -- by the fields of its part
-  pub held-found : {x : Held} → x ≡ contentsFrom (partAt s book) → tested (x .opening) (x .parts) ≡ storedAt book s
-  held-found k = let e = k ∙ contents-looked book s may-look in (λ i. tested (e i .opening) (e i .parts)) ∙ open-found
+  pub held-found : {x : Held} → x ≡ contentsFrom (partAt s book) → tested (x .opening) (x .parts) (pricesIn bs) ≡ storedAt book s
+  held-found k = let e = k ∙ contents-looked book s may-look in (λ i. tested (e i .opening) (e i .parts) (pricesIn bs)) ∙ open-found
 
   -- and the decision on it
   pub part-decided : (now : ℤ) → decisionIn (partAt s book) now ≡ decideCall (openingIn bs .terms) (openingIn bs .expiry) (partsIn bs) now

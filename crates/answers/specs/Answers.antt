@@ -11,4 +11,5 @@ answerOf (A.Used u) = R.Used (indexOf (u .slot)) (indexOf (u .«next_print»)) (
 answerOf (A.Wait until) = R.Wait until
 answerOf (A.Settle m price samples) = R.Settle (methodOf m) (price .0) samples
 answerOf A.Void = R.Answer.Void
+answerOf A.Done = R.Done
 answerOf (A.Refused r) = R.Refused r

@@ -4,7 +4,7 @@ use mathlib.Core.Path.{_≡_}
 use lib.Dec.{eqb}
 use Rattle.rules.specs.Log.{if_then_else_}
 use Rattle.rules.specs.Bytes.{Bytes}
-use Rattle.rules.specs.Answers.{Answer, Opened, Used, Wait, Settle, Refused}
+use Rattle.rules.specs.Answers.{Answer, Opened, Used, Wait, Settle, Done, Refused}
 use Rattle.rules.specs.Series.{Command}
 use Rattle.rules.specs.Book.{look, storedAnswer, written}
 use Rattle.record_test.specs.declared.status.Status.the-variants as S
@@ -30,4 +30,5 @@ bookAnswer (Used s l f) = Used s l f
 bookAnswer (Wait t) = Wait t
 bookAnswer (Settle m p n) = Settle m p n
 bookAnswer Answer.Void = Answer.Void
+bookAnswer Done = Done
 bookAnswer (Refused n) = Refused (inBook n)

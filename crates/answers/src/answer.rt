@@ -24,6 +24,7 @@ pub enum Answer {
         samples: u16,
     },
     Void,
+    Done,
     Refused(u8),
 }
 

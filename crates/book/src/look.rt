@@ -6,13 +6,18 @@ ghost use Rattle.core_parts.specs.States.{valueOr};
 ghost use Rattle.book.specs.Looks.{lookResultOf};
 
 // The bytes of a record.
-pub const RECORD_SIZE: usize = 200;
+pub const RECORD_SIZE: usize = 456;
+
+// Where the slot prices of a record begin, and how many places there are.
+pub const SLOT_PRICES_AT: usize = 200;
+
+pub const SLOT_PLACES: u8 = 32;
 
 // How many series a book has.
 pub const SERIES_COUNT: u8 = 64;
 
 // The bytes of a book.
-pub const BOOK_SIZE: usize = 12_800;
+pub const BOOK_SIZE: usize = 29_184;
 
 pub enum LookResult {
     Ok,

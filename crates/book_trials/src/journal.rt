@@ -13,7 +13,7 @@ use commands::apply::apply;
 use fields::read::u8_at;
 
 // The most bytes of a book, commands of a journal and bytes of an entry that a sample has.
-const LONGEST: usize = 25_600;
+const LONGEST: usize = 58_368;
 
 const MOST_COMMANDS: u64 = 64;
 

@@ -39,6 +39,7 @@ pub(crate) fn is_answer(b: &[u8], a: Answer) -> bool {
             samples,
         } => is(b, 252, method.number() as u64, price.get(), samples as u64),
         Answer::Void => is(b, 251, 0, 0, 0),
-        Answer::Refused(n) => (n <= 250) & is(b, n, 0, 0, 0),
+        Answer::Done => is(b, 250, 0, 0, 0),
+        Answer::Refused(n) => (n <= 249) & is(b, n, 0, 0, 0),
     }
 }

@@ -85,7 +85,7 @@ fn print(text: &[u8], numbers: &[u64], first: usize) {
 // The refusals, by their numbers.
 fn print_refused(t: &[u64; PLACES]) {
     let mut i: u64 = 0;
-    while i <= 250 {
+    while i <= 249 {
         let n = t[259 - i as usize];
         if n != 0 {
             let line = [i, n];
@@ -106,7 +106,7 @@ pub(crate) fn print_all(t: &[u64; PLACES]) {
     }
     print(
         b"journals #\ncommands #\ndifferent answers #\ndifferent books #\n\
-          opened #\nused #\nwait #\nsettle #\nvoid #\n",
+          opened #\nused #\nwait #\nsettle #\nvoid #\ndone #\n",
         t,
         0,
     );

@@ -19,7 +19,7 @@ use Rattle.rules.specs.Bytes.{Bytes, areBytes, zeros, bytes}
 use Rattle.rules.specs.Answers.{ok}
 use Rattle.rules.specs.State.{partsOf}
 use Rattle.rules.specs.Series.{Command, Series, empty, live, fixed, step, changed, after}
-use Rattle.rules.specs.Record.{recordSize, seriesCount, bookSize, fields, bytesOf, stored}
+use Rattle.rules.specs.Record.{recordSize, seriesCount, bookSize, fields, priceBytes, bytesOf, stored}
 use Rattle.rules.specs.Entries.{Entry, noCommand, command, entry}
 use Rattle.rules.specs.Book.{recordAt, replaced, answerIn, answerTo, afterIn, bookAfter, run}
 use Rattle.rules.specs.Ledger.{ledger, opening, commandsTo, ledgers, ledgerAnswer, records, bookOf}
@@ -89,10 +89,10 @@ module _ (f : ℕ → Bytes) (size : (s : ℕ) → length (f s) ≡ recordSize) 
           )
           (seam (take (s * recordSize) (records n f)) r (drop (s * recordSize + recordSize) (records n f)) (f n) ∙ ap (λ (x : Bytes). x ++ f n) (h l))
 
--- ---- every record is 200 bytes
+-- ---- every record is 456 bytes
 
 pub length-record : (s : Series) → length (bytesOf s) ≡ recordSize
-unfolding bytesOf fields zeros bytes partsOf
+unfolding bytesOf fields priceBytes zeros bytes partsOf
 length-record empty = refl
 length-record (live o c) = refl
 length-record (fixed o c a t) = refl

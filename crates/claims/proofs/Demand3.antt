@@ -3,14 +3,14 @@ use mathlib.Core.Path.{_≡_, refl}
 use mathlib.Core.Bool.{Bool, true, false}
 use mathlib.Core.Option.{Option, none, some}
 use Rattle.rules.proofs.Bools.{both}
-use Rattle.rules.proofs.Prices.{FairAnswer, opened, used, wait, fair, void, refusal, answers-fair}
+use Rattle.rules.proofs.Prices.{FairAnswer, opened, used, wait, fair, void, done, refusal, answers-fair}
 use Rattle.rules.specs.Log.{Log, ε, _▹_, if_then_else_, all}
 use Rattle.rules.specs.Bytes.{Bytes, areBytes}
 use Rattle.rules.specs.Answers.{Answer, Opened, Refused}
 use Rattle.rules.specs.Terms.{goodTerms}
-use Rattle.rules.specs.Series.{Opening, Command, Open, Offer, Ask, Fix, empty, live, noCandidates, keeps, leaves, step, answerOf, answer}
+use Rattle.rules.specs.Series.{Opening, Command, Open, Offer, Ask, Fix, Withdraw, empty, live, noHoldings, keeps, leaves, step, answerOf, answer}
 use Rattle.rules.specs.Entries.{Entry, noCommand, command, entry}
-use Rattle.rules.specs.Ledger.{opening, takenPrints, ledger, commandsTo, ledgers, ledgerAnswer}
+use Rattle.rules.specs.Ledger.{opening, takenEvents, ledger, commandsTo, ledgers, ledgerAnswer}
 use Rattle.claims.specs.Demand3 as Claim
 use Rattle.claims.specs.Demand3.{answered, Each, FairEntry, Demand3}
 use Rattle.claims.proofs.Book.{run-is, answer-is}
@@ -29,19 +29,21 @@ empty-fair : (j : Log Command) (c : Command) → Claim.FairAnswer j (answer empt
 unfolding step
 empty-fair j (Open o) = go (goodTerms (o .terms))
   where
-    go : (b : Bool) → Claim.FairAnswer j (answerOf (if b then leaves Opened (live o noCandidates) else keeps (Refused 12)))
+    go : (b : Bool) → Claim.FairAnswer j (answerOf (if b then leaves Opened (live o noHoldings) else keeps (Refused 12)))
     go true = tt
     go false = tt
 empty-fair j (Offer q now) = tt
 empty-fair j (Ask now) = tt
 empty-fair j (Fix now) = tt
+empty-fair j (Withdraw now i) = tt
 
-opened-fair : (j : Log Command) (o : Opening) → opening j ≡ some o → {a : Answer} → FairAnswer o (takenPrints j) a → Claim.FairAnswer j a
+opened-fair : (j : Log Command) (o : Opening) → opening j ≡ some o → {a : Answer} → FairAnswer o (takenEvents j) a → Claim.FairAnswer j a
 opened-fair j o e opened = tt
 opened-fair j o e used = tt
 opened-fair j o e wait = tt
 opened-fair j o e (fair f) = record { opened = o; isOpening = e; settle = f }
 opened-fair j o e void = tt
+opened-fair j o e done = tt
 opened-fair j o e refusal = tt
 
 unopened : (j : Log Command) → opening j ≡ none → ledger j ≡ empty

@@ -1,37 +1,25 @@
 -- An entry of bytes is a command that fits its fields, for one of the 64 series; and the ledgers after one more entry.
-use Prim.Native.Nat.{ℕ, zero, suc}
+use Prim.Native.Nat.{ℕ}
 use mathlib.Core.Path.{_≡_, refl, fun-ext}
 use mathlib.Core.Bool.{Bool, true, false, _&&_}
 use mathlib.Core.Option.{none, some}
 use mathlib.Core.List.{[], _∷_}
-use lib.ListN.{length, getD, drop}
-use mir.Syntax.{w8}
-use mir.Val.{Fits}
+use lib.ListN.{length, drop}
 use lib.Dec.{ltb, eqb}
 use borrow.Author.Tests.{lt-ltb}
 use Rattle.rules.proofs.Bools.{both, every-at}
 use Rattle.rules.proofs.Logs.{all-mono, all-put}
-use Rattle.rules.proofs.Bytes.{little-below, signed-fits}
+use Rattle.rules.proofs.Bytes.{drop-bytes, little-below, signed-fits}
 use Rattle.rules.proofs.Series.{inRange, after-ledger}
 use Rattle.rules.proofs.Fields.{commandFits}
 use Rattle.rules.specs.Log.{Log, ε, _▹_, if_then_else_, maybe, put, all}
 use Rattle.rules.specs.Bytes.{Bytes, areBytes, unsignedAt, signedAt, fitsUnsigned, fitsSigned, fits}
-use Rattle.rules.specs.Series.{Command, Open, Offer, Ask, Fix, Series, after}
+use Rattle.rules.specs.Series.{Command, Open, Offer, Ask, Fix, Withdraw, Series, after}
 use Rattle.rules.specs.Record.{seriesCount, openingFits}
-use Rattle.rules.specs.Entries.{Entry, noCommand, command, openingAt, quoteAt, nowAt, ofWidth, entry}
+use Rattle.rules.specs.Entries.{Entry, noCommand, command, openingAt, quoteAt, nowAt, slotAt, ofWidth, entry}
 use Rattle.rules.specs.Ledger.{ledger, commandTo, commandsTo, ledgers}
 
 -- ---- fields of bytes fit
-
--- what a slice of bytes holds
-pub are-bytes : (bs : Bytes) → ((i : ℕ) → Fits w8 (getD bs i 0)) → areBytes bs ≡ true
-are-bytes [] h = refl
-are-bytes (b ∷ bs) h = rw (lt-ltb b 256 (h 0 .fits), are-bytes bs (λ i. h (suc i)))
-
-pub drop-bytes : (n : ℕ) (bs : Bytes) → areBytes bs ≡ true → areBytes (drop n bs) ≡ true
-drop-bytes zero bs h = h
-drop-bytes (suc n) [] h = refl
-drop-bytes (suc n) (b ∷ bs) h = drop-bytes n bs (both (ltb b 256) (areBytes bs) h .1)
 
 pub unsigned-fits : (bs : Bytes) (i n : ℕ) → areBytes bs ≡ true → fitsUnsigned n (unsignedAt bs i n) ≡ true
 unfolding unsignedAt
@@ -91,32 +79,34 @@ module _ (P : Command → Bool) where
 
   -- what holds of each command that the bytes could be holds of the entry
   entry-holds : (e : Bytes) → P (Open (openingAt e)) ≡ true → P (Offer (quoteAt e) (nowAt e)) ≡ true → P (Ask (nowAt e)) ≡ true → P (Fix (nowAt e)) ≡ true
+      → P (Withdraw (nowAt e) (slotAt e)) ≡ true
       → holdsOf P (entry e) ≡ true
   unfolding entry
-  entry-holds [] o f a x = refl
-  entry-holds (b ∷ bs) o f a x = go (eqb b 1) (eqb b 2) (eqb b 3) (eqb b 4)
+  entry-holds [] o f a x w = refl
+  entry-holds (b ∷ bs) o f a x w = go (eqb b 1) (eqb b 2) (eqb b 3) (eqb b 4) (eqb b 6)
     where
       e : Bytes
       e = b ∷ bs
 
-      go : (b₁ b₂ b₃ b₄ : Bool)
+      go : (b₁ b₂ b₃ b₄ b₆ : Bool)
           → holdsOf P (if b₁ then ofWidth 38 e (Open (openingAt e)) else if b₂ then ofWidth 46 e (Offer (quoteAt e) (nowAt e)) else
-          if b₃ then ofWidth 10 e (Ask (nowAt e)) else if b₄ then ofWidth 10 e (Fix (nowAt e)) else noCommand 32) ≡ true
-      go true b₂ b₃ b₄ = width-holds 38 e (Open (openingAt e)) o
-      go false true b₃ b₄ = width-holds 46 e (Offer (quoteAt e) (nowAt e)) f
-      go false false true b₄ = width-holds 10 e (Ask (nowAt e)) a
-      go false false false true = width-holds 10 e (Fix (nowAt e)) x
-      go false false false false = refl
+          if b₃ then ofWidth 10 e (Ask (nowAt e)) else if b₄ then ofWidth 10 e (Fix (nowAt e)) else if b₆ then ofWidth 11 e (Withdraw (nowAt e) (slotAt e)) else noCommand 32) ≡ true
+      go true b₂ b₃ b₄ b₆ = width-holds 38 e (Open (openingAt e)) o
+      go false true b₃ b₄ b₆ = width-holds 46 e (Offer (quoteAt e) (nowAt e)) f
+      go false false true b₄ b₆ = width-holds 10 e (Ask (nowAt e)) a
+      go false false false true b₆ = width-holds 10 e (Fix (nowAt e)) x
+      go false false false false true = width-holds 11 e (Withdraw (nowAt e) (slotAt e)) w
+      go false false false false false = refl
 
 abbrev pub entryFits : Entry → Bool
 entryFits n = holdsOf commandFits n
 
 pub entry-fits : (e : Bytes) → areBytes e ≡ true → entryFits (entry e) ≡ true
-entry-fits e h = entry-holds commandFits e (opening-at-fits e h) (offer-at-fits e) (signed-fits-8 e 2) (signed-fits-8 e 2)
+entry-fits e h = entry-holds commandFits e (opening-at-fits e h) (offer-at-fits e) (signed-fits-8 e 2) (signed-fits-8 e 2) (signed-fits-8 e 2)
 
 -- a command is one of the 64 series
 pub entry-series : (e : Bytes) → holdsOf (λ c. true) (entry e) ≡ true
-entry-series e = entry-holds (λ c. true) e refl refl refl refl
+entry-series e = entry-holds (λ c. true) e refl refl refl refl refl
 
 command-to-fits : (s : ℕ) (n : Entry) → entryFits n ≡ true → maybe true commandFits (commandTo s n) ≡ true
 command-to-fits s (noCommand r) h = refl
@@ -140,6 +130,7 @@ fits-in-range (Open o) h = refl
 fits-in-range (Offer q now) h = every-at (fits (q .price) ∷ fits (q .published) ∷ fits now ∷ []) 0 h
 fits-in-range (Ask now) h = refl
 fits-in-range (Fix now) h = refl
+fits-in-range (Withdraw now i) h = refl
 
 -- the series after an entry
 abbrev pub seriesAfter : (ℕ → Series) → Entry → ℕ → Series

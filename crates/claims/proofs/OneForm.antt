@@ -1,26 +1,26 @@
 -- Each acceptable record has one byte form: what was read from it writes back as the same bytes.
-use Prim.Native.Nat.{ℕ, zero, suc, _+_, _/_, _%_, _^_, _≤_, _<_}
+use Prim.Native.Nat.{ℕ, _+_, _/_, _%_, _^_, _≤_, _<_}
 use mathlib.Core.Path.{_≡_, refl, sym, ap, ap₂, _∙_}
 use mathlib.Core.Bool.{Bool, true, false, _&&_}
-use mathlib.Core.List.{List, [], _∷_}
+use mathlib.Core.List.{List, [], _∷_, _++_}
 use native.Mathlib.Omega.{arith}
-use lib.ListN.{length, take, drop, replicate, length-take, length-drop}
-use lib.Seq.{take-all, take-add, drop-drop}
+use lib.ListN.{length, take, drop, replicate, take-append-drop}
+use lib.Seq.{take-add, drop-drop}
 use lib.IntN.{ℤ, pos}
-use lib.Dec.{ltb, eqb}
+use lib.Dec.{eqb}
 use borrow.Author.Tests.{eqb-true}
 use Rattle.rules.proofs.Bools.{both, every-at}
 use Rattle.rules.proofs.State.{parts-kept}
 use Rattle.rules.proofs.Record.{outcome-stands, written-read}
-use Rattle.rules.proofs.Bytes.{bytes-little, word-signed, little-below}
+use Rattle.rules.proofs.Bytes.{drop-bytes, all-zero, field-back, word-signed, little-below}
+use Rattle.rules.proofs.SlotPrices.{prices-back}
 use Rattle.rules.specs.Log.{if_then_else_, every}
-use Rattle.rules.specs.Bytes.{Bytes, areBytes, zeros, allZero, concat, little, unsignedAt, signedAt, bytes, word, signedBytes}
+use Rattle.rules.specs.Bytes.{Bytes, areBytes, zeros, allZero, concat, unsignedAt, signedAt, bytes, word, signedBytes}
 use Rattle.rules.specs.Answers.{ok, refused, method, Answer}
 use Rattle.rules.specs.State.{Parts, candidatesOf, partsOf, goodState}
 use Rattle.rules.specs.Series.{Opening, Series, empty, live, fixed, decided}
-use Rattle.rules.specs.Record.{recordSize, methodOf, samplesOf, priceOf, fields, bytesOf, outcome, openingIn, partsIn, tagIn, samplesIn, methodIn, fixingTimeIn, priceIn, seriesIn, bodyTests, openTests, fixedTests, acceptable, stored}
+use Rattle.rules.specs.Record.{recordSize, slotPricesAt, methodOf, samplesOf, priceOf, fields, priceBytes, bytesOf, outcome, openingIn, partsIn, pricesIn, holdingsIn, tagIn, samplesIn, methodIn, fixingTimeIn, priceIn, seriesIn, bodyTests, openTests, fixedTests, acceptable, stored}
 use Rattle.claims.specs.OneForm.{isRecord, OneForm}
-use Rattle.claims.proofs.Entries.{drop-bytes}
 use Rattle.claims.proofs.Book.{ledgers-stored}
 
 -- ---- a list cut into pieces
@@ -38,23 +38,11 @@ concat-pieces : (ws : List ℕ) (i : ℕ) (bs : Bytes) → concat (pieces ws i b
 concat-pieces [] i bs = refl
 concat-pieces (w ∷ ws) i bs = rw (concat-pieces ws (i + w) bs, take-add w (sum ws) (drop i bs), drop-drop w i bs)
 
-pub take-bytes : (n : ℕ) (bs : Bytes) → areBytes bs ≡ true → areBytes (take n bs) ≡ true
-take-bytes zero bs h = refl
-take-bytes (suc n) [] h = refl
-take-bytes (suc n) (b ∷ bs) h = let (x, y) = both (ltb b 256) (areBytes bs) h in rw (x, take-bytes n bs y)
-
-all-zero : (bs : Bytes) → allZero bs ≡ true → replicate (length bs) 0 ≡ bs
-all-zero [] h = refl
-all-zero (b ∷ bs) h = let (x, y) = both (eqb b 0) (allZero bs) h in ap₂ _∷_ (sym (eqb-true b 0 x)) (all-zero bs y)
-
--- ---- a record of 200 bytes
+-- ---- a record of 456 bytes
 
 module _ (bs : Bytes) (len : length bs ≡ recordSize) (are : areBytes bs ≡ true) where
   field : (i n : ℕ) → i + n ≤ recordSize → bytes n (unsignedAt bs i n) ≡ take n (drop i bs)
-  unfolding unsignedAt
-  field i n h =
-      let size : length (take n (drop i bs)) ≡ n = simp (length-take, length-drop) (omega arith) in
-      ap (λ (x : ℕ). bytes x (little (take n (drop i bs)))) (sym size) ∙ bytes-little (take n (drop i bs)) (take-bytes n (drop i bs) (drop-bytes i bs are))
+  field i n h = field-back bs are i n (omega arith)
 
   below : (i n : ℕ) → unsignedAt bs i n < 256 ^ n
   unfolding unsignedAt
@@ -86,10 +74,10 @@ module _ (bs : Bytes) (len : length bs ≡ recordSize) (are : areBytes bs ≡ tr
   rebuilt : (tag samples num : ℕ) (at : ℤ) (price : ℕ)
       → bytes 1 tag ≡ take 1 (drop 0 bs) → bytes 2 samples ≡ take 2 (drop 10 bs) → bytes 1 num ≡ take 1 (drop 36 bs) → zeros 3 ≡ take 3 (drop 37 bs)
       → signedBytes 8 at ≡ take 8 (drop 184 bs) → bytes 8 price ≡ take 8 (drop 192 bs)
-      → concat (fields tag o s samples num at price) ≡ bs
+      → concat (fields tag o s samples num at price) ++ priceBytes (pricesIn bs) ≡ bs
   unfolding fields openingIn partsIn
   rebuilt tag samples num at price tagged sampled numbered padded timed priced =
-      ap concat cut ∙ concat-pieces widths 0 bs ∙ take-all recordSize bs (omega (arith, len))
+      ap₂ _++_ (ap concat cut ∙ concat-pieces widths 0 bs) (prices-back bs len are) ∙ take-append-drop slotPricesAt bs
     where
       widths : List ℕ
       widths =
@@ -122,7 +110,7 @@ module _ (bs : Bytes) (len : length bs ≡ recordSize) (are : areBytes bs ≡ tr
       unfolding zeros bytes
       padded = ap (bytes 3) (sym pad) ∙ field 37 3 (omega arith)
 
-      live-back : tagIn bs ≡ 1 → every (openTests bs) ≡ true → bytesOf (live o (candidatesOf s)) ≡ bs
+      live-back : tagIn bs ≡ 1 → every (openTests bs) ≡ true → bytesOf (live o (holdingsIn bs)) ≡ bs
       unfolding bytesOf word
       live-back e h =
           rw state-back
@@ -140,7 +128,7 @@ module _ (bs : Bytes) (len : length bs ≡ recordSize) (are : areBytes bs ≡ tr
       abbrev a : Answer
       a = outcome (method (methodIn bs)) (priceIn bs) (samplesIn bs)
 
-      fixed-back : tagIn bs ≡ 2 → every (fixedTests bs) ≡ true → bytesOf (fixed o (candidatesOf s) a (fixingTimeIn bs)) ≡ bs
+      fixed-back : tagIn bs ≡ 2 → every (fixedTests bs) ≡ true → bytesOf (fixed o (holdingsIn bs) a (fixingTimeIn bs)) ≡ bs
       unfolding bytesOf
       fixed-back e h =
           let same = outcome-stands bs h in
@@ -165,15 +153,15 @@ module _ (bs : Bytes) (len : length bs ≡ recordSize) (are : areBytes bs ≡ tr
     where
       go : (x y z : Bool) → eqb (tagIn bs) 0 ≡ x → eqb (tagIn bs) 1 ≡ y → eqb (tagIn bs) 2 ≡ z
           → (if x then allZero bs else if y then every (bodyTests bs) && every (openTests bs) else if z then every (bodyTests bs) && every (fixedTests bs) else false) ≡ true
-          → bytesOf (if x then empty else if y then live o (candidatesOf s) else fixed o (candidatesOf s) (outcome (method (methodIn bs)) (priceIn bs) (samplesIn bs)) (fixingTimeIn bs)) ≡ bs
+          → bytesOf (if x then empty else if y then live o (holdingsIn bs) else fixed o (holdingsIn bs) (outcome (method (methodIn bs)) (priceIn bs) (samplesIn bs)) (fixingTimeIn bs)) ≡ bs
       go true y z ex ey ez h = empty-back h
         where
           empty-back : allZero bs ≡ true → bytesOf empty ≡ bs
           empty-back h = unfold bytesOf zeros in ap (λ (n : ℕ). replicate n 0) (sym len) ∙ all-zero bs h
       go false true z ex ey ez h =
-          body-back (live o (candidatesOf s)) (openTests bs) h (λ good pad tests. live-back good pad (eqb-true (tagIn bs) 1 ey) tests)
+          body-back (live o (holdingsIn bs)) (openTests bs) h (λ good pad tests. live-back good pad (eqb-true (tagIn bs) 1 ey) tests)
       go false false true ex ey ez h =
-          body-back (fixed o (candidatesOf s) (outcome (method (methodIn bs)) (priceIn bs) (samplesIn bs)) (fixingTimeIn bs)) (fixedTests bs) h
+          body-back (fixed o (holdingsIn bs) (outcome (method (methodIn bs)) (priceIn bs) (samplesIn bs)) (fixingTimeIn bs)) (fixedTests bs) h
           (λ good pad tests. fixed-back good pad (eqb-true (tagIn bs) 2 ez) tests)
       go false false false ex ey ez h = cc
 

@@ -5,7 +5,7 @@ use mathlib.Core.Bool.{Bool, true, false, not, _&&_, _||_}
 use mathlib.Core.Option.{Option, none, some}
 use native.Mathlib.Omega.{arith}
 use lib.IntN.{ℤ}
-use lib.Dec.{eqb}
+use lib.Dec.{leb, eqb}
 use borrow.Author.Tests.{lt-ltb, eqb-true, eq-eqb}
 use Rattle.rules.proofs.Bools.{both, every-at}
 use Rattle.rules.proofs.Bytes.{bytes-are, little-bytes, signed-word, word-below}
@@ -14,14 +14,14 @@ use Rattle.rules.proofs.Fields.{opening-fits}
 use Rattle.rules.proofs.Waits.{Decides, stays, waits, three-waits}
 use Rattle.rules.specs.Log.{Log, ε, _▹_, if_then_else_, isSome, all}
 use Rattle.rules.specs.Bytes.{Bytes, areBytes, signed, unsignedAt, signedAt, bytes, word, fits}
-use Rattle.rules.specs.Answers.{Result, ok, refused, Answer, Opened, Used, Wait, Settle, Refused, isUsed}
-use Rattle.rules.specs.Terms.{goodTerms}
+use Rattle.rules.specs.Answers.{Result, ok, refused, Answer, Opened, Used, Wait, Settle, Done, Refused, isUsed}
+use Rattle.rules.specs.Terms.{slots, goodTerms}
 use Rattle.rules.specs.Prints.{Print, accept}
-use Rattle.rules.specs.Taking.{Candidates, printAnswer, place}
-use Rattle.rules.specs.Series.{Opening, Command, Open, Offer, Ask, Fix, Series, empty, live, fixed, noCandidates, keeps, leaves, decided, offered, fixing, step, answerOf, changed, answer, after}
+use Rattle.rules.specs.Taking.{bit, printAnswer}
+use Rattle.rules.specs.Series.{Opening, Command, Open, Offer, Ask, Fix, Withdraw, Holdings, Series, empty, live, fixed, noHoldings, keeps, leaves, decided, offerHeld, offered, fixing, withdrawn, withdrawing, step, Step, answerOf, changed, answer, after}
 use Rattle.rules.specs.Record.{seriesCount, openingFields, openingFits}
 use Rattle.rules.specs.Entries.{Entry, noCommand, command, entry}
-use Rattle.rules.specs.Ledger.{opening, candidates, Freeze, freeze, takenPrints, ledger, commandTo, commandsTo, ledgers, isOpen, ledgerAnswer}
+use Rattle.rules.specs.Ledger.{opening, candidates, holdings, Freeze, freeze, takenEvents, ledger, commandTo, commandsTo, ledgers, isOpen, ledgerAnswer}
 use Rattle.claims.specs.Demand3.{answered, askOf, isAsk, isRefused, mayStand, _▹▹_, between, Settles}
 use Rattle.claims.proofs.Entries.{commands-fit, seriesAfter, ledgers-more}
 use Rattle.claims.proofs.Book.{answer-is}
@@ -53,19 +53,32 @@ used-kept Opened next h = refl
 used-kept (Wait t) next h = refl
 used-kept (Settle m p n) next h = refl
 used-kept Answer.Void next h = refl
+used-kept Done next h = refl
 used-kept (Refused r) next h = refl
 
-fixing-kept : (o : Opening) (c : Candidates) (now : ℤ) (a : Answer) → isRefused (answerOf (fixing o c now a)) ≡ true → changed (fixing o c now a) ≡ none
+fixing-kept : (o : Opening) (c : Holdings) (now : ℤ) (a : Answer) → isRefused (answerOf (fixing o c now a)) ≡ true → changed (fixing o c now a) ≡ none
 fixing-kept o c now (Settle m p n) h = cc
 fixing-kept o c now Answer.Void h = cc
 fixing-kept o c now Opened h = refl
 fixing-kept o c now (Used s l f) h = refl
 fixing-kept o c now (Wait t) h = refl
+fixing-kept o c now Done h = refl
 fixing-kept o c now (Refused r) h = refl
 
-offered-kept : (o : Opening) (c : Candidates) (now : ℤ) (r : Result Print) → isRefused (answerOf (offered o c now r)) ≡ true → changed (offered o c now r) ≡ none
+offered-kept : (o : Opening) (c : Holdings) (now : ℤ) (r : Result Print) → isRefused (answerOf (offered o c now r)) ≡ true → changed (offered o c now r) ≡ none
 offered-kept o c now (refused r) h = refl
-offered-kept o c now (ok p) h = used-kept (printAnswer (o .terms) (o .expiry) c p) (live o (place (o .terms) (o .expiry) c p now)) h
+offered-kept o c now (ok p) h = used-kept (printAnswer (o .terms) (o .expiry) (c .candidates) p) (live o (offerHeld o c now (ok p))) h
+
+withdrawing-kept : (o : Opening) (c : Holdings) (now : ℤ) (i : ℕ) → isRefused (answerOf (withdrawing o c now i)) ≡ true → changed (withdrawing o c now i) ≡ none
+withdrawing-kept o c now i h = go (leb (slots (o .terms)) i) (not (bit i (c .candidates .bits))) h
+  where
+    step-of : Bool → Bool → Step
+    step-of a b = if a then keeps (Refused 40) else if b then keeps (Refused 41) else leaves Done (live o (withdrawn c now i))
+
+    go : (a b : Bool) → isRefused (answerOf (step-of a b)) ≡ true → changed (step-of a b) ≡ none
+    go true b h = refl
+    go false true h = refl
+    go false false h = cc
 
 opened-kept : (b : Bool) (next : Series) → isRefused (answerOf (if b then leaves Opened next else keeps (Refused 12))) ≡ true
     → changed (if b then leaves Opened next else keeps (Refused 12)) ≡ none
@@ -74,18 +87,21 @@ opened-kept false next h = refl
 
 pub refused-kept : (s : Series) (c : Command) → isRefused (answer s c) ≡ true → changed (step s c) ≡ none
 unfolding step
-refused-kept empty (Open o) h = opened-kept (goodTerms (o .terms)) (live o noCandidates) h
+refused-kept empty (Open o) h = opened-kept (goodTerms (o .terms)) (live o noHoldings) h
 refused-kept empty (Offer q now) h = refl
 refused-kept empty (Ask now) h = refl
 refused-kept empty (Fix now) h = refl
+refused-kept empty (Withdraw now i) h = refl
 refused-kept (live o c) (Open q) h = refl
 refused-kept (live o c) (Offer q now) h = offered-kept o c now (accept (o .terms .exponent) (o .bps) q) h
 refused-kept (live o c) (Ask now) h = refl
-refused-kept (live o c) (Fix now) h = fixing-kept o c now (decided o c now) h
+refused-kept (live o c) (Fix now) h = fixing-kept o c now (decided o (c .candidates) now) h
+refused-kept (live o c) (Withdraw now i) h = withdrawing-kept o c now i h
 refused-kept (fixed o c a at) (Open q) h = refl
 refused-kept (fixed o c a at) (Offer q now) h = refl
 refused-kept (fixed o c a at) (Ask now) h = refl
 refused-kept (fixed o c a at) (Fix now) h = refl
+refused-kept (fixed o c a at) (Withdraw now i) h = refl
 
 ask-kept : (s : Series) (c : Command) → isAsk c ≡ true → changed (step s c) ≡ none
 unfolding step
@@ -95,6 +111,7 @@ ask-kept empty (Ask now) h = refl
 ask-kept (live o c) (Ask now) h = refl
 ask-kept (fixed o c a at) (Ask now) h = refl
 ask-kept s (Fix now) h = cc
+ask-kept s (Withdraw now i) h = cc
 
 -- ---- entries between the asks
 
@@ -128,8 +145,8 @@ module _ (s : ℕ) where
       (rw (a, b), stands-kept (l ▹▹ m) e a b st ∙ r)
 
   module _ (small : s < seriesCount) where
-    ask-answered : (l : Log Bytes) (o : Opening) (c : Candidates) (t : ℤ) → all areBytes l ≡ true → ledgers l s ≡ live o c → fits t ≡ true
-        → answered l (askOf s t) ≡ decided o c t
+    ask-answered : (l : Log Bytes) (o : Opening) (c : Holdings) (t : ℤ) → all areBytes l ≡ true → ledgers l s ≡ live o c → fits t ≡ true
+        → answered l (askOf s t) ≡ decided o (c .candidates) t
     unfolding step
     ask-answered l o c t h e f =
         answer-is l (askOf s t) h (ask-bytes s t small) ∙ ap (ledgerAnswer (ledgers l)) (ask-entry s t small f) ∙ ap (λ (x : Series). answer x (Ask t)) e
@@ -138,8 +155,8 @@ module _ (s : ℕ) where
     ask-stands l t h f = stands-kept l (askOf s t) h (ask-bytes s t small) (rw (ask-entry s t small f, eq-eqb s s refl))
 
     -- what the decision gives, the list gives
-    settles : (l : Log Bytes) (o : Opening) (c : Candidates) (n : ℕ) (t : ℤ) → all areBytes l ≡ true → ledgers l s ≡ live o c → fits t ≡ true
-        → Decides (decided o c) n t → Settles s n l t
+    settles : (l : Log Bytes) (o : Opening) (c : Holdings) (n : ℕ) (t : ℤ) → all areBytes l ≡ true → ledgers l s ≡ live o c → fits t ≡ true
+        → Decides (decided o (c .candidates)) n t → Settles s n l t
     settles l o c n t h e f (stays a good later) =
         Settles.stays a good
         (λ m k u fu le. let (b, r) = between-kept l m h k in ask-answered (l ▹▹ m) o c u b (r ∙ e) fu ∙ later u le)
@@ -153,7 +170,7 @@ module _ (s : ℕ) where
     -- ---- an open series
 
     open-at : (l : Log Bytes) (o : Opening) → opening (commandsTo s l) ≡ some o → freeze (commandsTo s l) ≡ none
-        → ledgers l s ≡ live o (candidates o (takenPrints (commandsTo s l)))
+        → ledgers l s ≡ live o (holdings o (takenEvents (commandsTo s l)))
     unfolding ledgers ledger
     open-at l o e y = rw (e, y)
 
@@ -168,6 +185,6 @@ module _ (s : ℕ) where
         go none z e y p = let c : _≡_ {A = ℕ} 0 1 = cc in let c : ⊥ = omega arith in absurd c
         go (some o) (some z) e y p = let c : _≡_ {A = ℕ} 0 1 = cc in let c : ⊥ = omega arith in absurd c
         go (some o) none e y p =
-            let c = candidates o (takenPrints j) in
+            let c = holdings o (takenEvents j) in
             let expiry : fits (o .expiry) ≡ true = every-at (openingFields o) 10 (opening-fits j o (commands-fit s l h) e) in
-            settles l o c 3 t h (open-at l o e y) f (three-waits (o .terms) (o .expiry) c (opening-good j o e) expiry t)
+            settles l o c 3 t h (open-at l o e y) f (three-waits (o .terms) (o .expiry) (c .candidates) (opening-good j o e) expiry t)

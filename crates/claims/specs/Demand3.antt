@@ -8,12 +8,12 @@ use lib.IntN.{ℤ}
 use lib.Signed.{leZ}
 use Rattle.rules.specs.Log.{Log, ε, _▹_}
 use Rattle.rules.specs.Bytes.{Bytes, areBytes, signedBytes, fits}
-use Rattle.rules.specs.Answers.{Method, Answer, Opened, Used, Wait, Settle, Refused, settled}
-use Rattle.rules.specs.Series.{Opening, Command, Open, Offer, Ask, Fix}
+use Rattle.rules.specs.Answers.{Method, Answer, Opened, Used, Wait, Settle, Done, Refused, settled}
+use Rattle.rules.specs.Series.{Opening, Command, Open, Offer, Ask, Fix, Withdraw}
 use Rattle.rules.specs.Record.{seriesCount}
 use Rattle.rules.specs.Entries.{Entry, noCommand, command, entry}
 use Rattle.rules.specs.Book.{answerTo, run}
-use Rattle.rules.specs.Ledger.{opening, takenPrints, FairSettle, commandTo, commandsTo, isOpen, ledgers, ledgerAnswer, bookOf}
+use Rattle.rules.specs.Ledger.{opening, takenEvents, FairSettle, commandTo, commandsTo, isOpen, ledgers, ledgerAnswer, bookOf}
 
 -- the answer to e, given after the entries of l
 abbrev pub answered : Log Bytes → Bytes → Answer
@@ -30,7 +30,7 @@ Each P (l ▹ e) = Each P l × P l e
 pub record Fair (j : Log Command) (m : Method) (price samples : ℕ) : Type 0 where
   pub opened : Opening
   pub isOpening : opening j ≡ some opened
-  pub settle : FairSettle opened (takenPrints j) m price samples
+  pub settle : FairSettle opened (takenEvents j) m price samples
 
 abbrev pub FairAnswer : Log Command → Answer → Type 0
 FairAnswer j (Settle m price samples) = Fair j m price samples
@@ -38,6 +38,7 @@ FairAnswer j Answer.Void = Unit
 FairAnswer j Opened = Unit
 FairAnswer j (Used s l f) = Unit
 FairAnswer j (Wait t) = Unit
+FairAnswer j Done = Unit
 FairAnswer j (Refused r) = Unit
 
 -- only a command gives a price, and its ledger is that of its series
@@ -56,16 +57,18 @@ isAsk (Open o) = false
 isAsk (Offer q now) = false
 isAsk (Ask now) = true
 isAsk (Fix now) = false
+isAsk (Withdraw now i) = false
 
 abbrev pub isRefused : Answer → Bool
 isRefused (Refused r) = true
 isRefused Opened = false
 isRefused (Used s l f) = false
 isRefused (Wait t) = false
+isRefused Done = false
 isRefused (Settle m p n) = false
 isRefused Answer.Void = false
 
--- an entry that may stand between the asks of series s: no command of s, an ask, or one that is refused
+-- an entry that may stand between the asks of series s: no command of s, an ask, or one that is refused; so no accepted withdraw (#103)
 abbrev pub mayStand : Option Command → Answer → Bool
 mayStand none a = true
 mayStand (some c) a = isAsk c || isRefused a

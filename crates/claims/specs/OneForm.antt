@@ -14,7 +14,7 @@ use Rattle.rules.specs.Entries.{entry}
 use Rattle.rules.specs.Book.{recordAt, answerTo, bookAfter}
 use Rattle.rules.specs.Ledger.{commandTo, ledgers}
 
--- 200 bytes
+-- 456 bytes
 abbrev pub isRecord : Bytes → Bool
 isRecord bs = eqb (length bs) recordSize && areBytes bs
 

@@ -18,6 +18,7 @@ entryOf (N.Open series params bps expiry) = E.command series (S.Open (openingWit
 entryOf (N.Offer series quote now) = E.command series (S.Offer (quoteOf quote) now)
 entryOf (N.Ask series now) = E.command series (S.Ask now)
 entryOf (N.Fix series now) = E.command series (S.Fix now)
+entryOf (N.Withdraw series now slot) = E.command series (S.Withdraw now slot)
 
 -- the entry of a command, by its width and its series
 abbrev pub seriesResultOf : SeriesResult → S.Command → E.Entry

@@ -10,6 +10,7 @@ use fixings::ask::ask;
 use fixings::fix::fix;
 use openings::offer::offer;
 use openings::open::open;
+use withdrawals::withdraw::withdraw;
 
 // Gives an entry to the book: 35, 33 if empty, 32, 33, 34, then the command's own.
 pub fn apply(book: &mut [u8], entry: &[u8]) -> Answer
@@ -29,5 +30,6 @@ pub fn apply(book: &mut [u8], entry: &[u8]) -> Answer
         Entry::Offer { series, quote, now } => offer(book, series, quote, now),
         Entry::Ask { series, now } => ask(&book[..], series, now),
         Entry::Fix { series, now } => fix(book, series, now),
+        Entry::Withdraw { series, now, slot } => withdraw(book, series, now, slot),
     }
 }

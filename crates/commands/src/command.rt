@@ -1,7 +1,7 @@
 // Entries: a command in bytes, or none.
 ghost use mathlib.Core.Path.{_≡_};
-ghost use Rattle.rules.specs.Series.{Command, Open, Offer, Ask, Fix};
-ghost use Rattle.rules.specs.Entries.{openingAt, quoteAt, nowAt, ofWidth, entry};
+ghost use Rattle.rules.specs.Series.{Command, Open, Offer, Ask, Fix, Withdraw};
+ghost use Rattle.rules.specs.Entries.{openingAt, quoteAt, nowAt, slotAt, ofWidth, entry};
 ghost use Rattle.core_terms.specs.Params.{termsOf};
 ghost use Rattle.core_prices.specs.Prints.{quoteOf};
 ghost use Rattle.commands.specs.Entries.{seriesResultOf, isWide, entryOf};
@@ -37,6 +37,11 @@ pub enum Entry {
     Fix {
         series: u8,
         now: i64,
+    },
+    Withdraw {
+        series: u8,
+        now: i64,
+        slot: u8,
     },
 }
 
@@ -140,6 +145,19 @@ fn fix_entry(bytes: &[u8]) -> Entry
     }
 }
 
+fn withdraw_entry(bytes: &[u8]) -> Entry
+    ensures { λ r. ⌜ entryOf r ≡ ofWidth 11 (now (bytes .entry)) (Withdraw (nowAt (now (bytes .entry))) (slotAt (now (bytes .entry)))) ⌝ }
+{
+    match series_of(bytes, 11) {
+        SeriesResult::Ok(series) => Entry::Withdraw {
+            series: series,
+            now: i64_at(bytes, 2),
+            slot: u8_at(bytes, 10),
+        },
+        SeriesResult::Refused(n) => Entry::NoCommand(n),
+    }
+}
+
 // The command that any bytes are, or 33, 32, 33, 34.
 pub fn read_entry(bytes: &[u8]) -> Entry
     ensures { λ r. ⌜ entryOf r ≡ entry (now (bytes .entry)) ⌝ }
@@ -152,6 +170,7 @@ pub fn read_entry(bytes: &[u8]) -> Entry
         2 => offer_entry(bytes),
         3 => ask_entry(bytes),
         4 => fix_entry(bytes),
+        6 => withdraw_entry(bytes),
         _ => Entry::NoCommand(32),
     }
 }

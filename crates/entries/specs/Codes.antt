@@ -3,7 +3,7 @@ use Prim.Native.Nat.{ℕ}
 use mathlib.Core.Option.{Option}
 use Rattle.rules.specs.Log.{if_then_else_, maybe}
 use Rattle.rules.specs.Bytes.{word}
-use Rattle.rules.specs.Answers.{Result, ok, refused, number, Answer, Opened, Used, Wait, Settle, Refused}
+use Rattle.rules.specs.Answers.{Result, ok, refused, number, Answer, Opened, Used, Wait, Settle, Done, Refused}
 use Rattle.rules.specs.Prints.{Print}
 
 -- a refusal's number, or 255 where there is none
@@ -32,6 +32,7 @@ answerCode (Used s l f) = 254
 answerCode (Wait t) = 253
 answerCode (Settle m p n) = 252
 answerCode Answer.Void = 251
+answerCode Done = 250
 answerCode (Refused r) = r
 
 -- what stands in the caller's three numbers after the call
@@ -41,6 +42,7 @@ firstAfter before (Used s l f) = placeCode s
 firstAfter before (Wait t) = word 64 t
 firstAfter before (Settle m p n) = number m
 firstAfter before Answer.Void = before
+firstAfter before Done = before
 firstAfter before (Refused r) = before
 
 abbrev pub secondAfter : ℕ → Answer → ℕ
@@ -49,6 +51,7 @@ secondAfter before (Used s l f) = placeCode l
 secondAfter before (Wait t) = before
 secondAfter before (Settle m p n) = p
 secondAfter before Answer.Void = before
+secondAfter before Done = before
 secondAfter before (Refused r) = before
 
 abbrev pub thirdAfter : ℕ → Answer → ℕ
@@ -57,4 +60,5 @@ thirdAfter before (Used s l f) = if f then 1 else 0
 thirdAfter before (Wait t) = before
 thirdAfter before (Settle m p n) = n
 thirdAfter before Answer.Void = before
+thirdAfter before Done = before
 thirdAfter before (Refused r) = before

@@ -2,9 +2,10 @@
 use Prim.Native.Nat.{ℕ, _^_}
 use mathlib.Core.Path.{_≡_, refl, sym, ap, _∙_}
 use mathlib.Core.Bool.{Bool, true, false, not, _&&_, _||_}
+use mathlib.Core.List.{List}
 use native.Mathlib.Omega.{arith}
 use lib.IntN.{ℤ}
-use lib.Dec.{ltb, leb, eqb}
+use lib.Dec.{leb, eqb}
 use Rattle.rules.specs.Log.{if_then_else_}
 use Rattle.rules.specs.Bytes.{Bytes}
 use Rattle.rules.specs.Answers.{Result, ok, refused, Method, method, Answer, Refused, final}
@@ -13,8 +14,8 @@ use Rattle.rules.specs.Mean.{numerator, denominator, rounded, mean}
 use Rattle.rules.specs.Decision.{settleAt, settle, decide}
 use Rattle.rules.specs.Taking.{Candidates}
 use Rattle.rules.specs.State.{Parts, candidatesOf, partsOf, goodState, decideCall}
-use Rattle.rules.specs.Series.{Ask, Fix, Opening, Series, live, decided, step}
-use Rattle.rules.specs.Record.{openingIn, partsIn, methodIn, priceIn, samplesIn, outcome, fixedRecord, bytesOf}
+use Rattle.rules.specs.Series.{Ask, Fix, Opening, Holdings, Series, live, decided, step}
+use Rattle.rules.specs.Record.{openingIn, partsIn, pricesIn, methodIn, priceIn, samplesIn, outcome, fixedRecord, bytesOf}
 use Rattle.rules.specs.Book.{look, recordAt, replaced, storedAnswer, written}
 use Rattle.rules.proofs.Bools.{both, every-at}
 use Rattle.rules.proofs.Decision.{decide-each}
@@ -26,7 +27,7 @@ use Rattle.record_read.specs.Records.{outcomeIn}
 use Rattle.record_test.specs.Statuses.{statusIn}
 use Rattle.book.proofs.Looks.{partAt, part-is}
 use Rattle.answers.specs.Commands.{Untested, answerAt, afterAt, inBook, bookAnswer}
-use Rattle.answers.proofs.Commands.{answered, testedAs, tested, open-found, open-kept}
+use Rattle.answers.proofs.Commands.{answered, holding, testedAs, tested, open-found, open-kept}
 
 -- ---- the decision by the core's call, which tests the terms and the state
 
@@ -48,18 +49,18 @@ on-good-terms t E c now g =
     decide-each (λ a. bookAnswer a ≡ a) t E c now (λ _. refl) refl refl
     (settled _ _ _ _ h) (settled _ _ _ _ h) (settled _ _ _ _ h) (settled _ _ _ _ h) (λ _. settled _ _ _ _ h)
 
-module _ (o : Opening) (p : Parts) (now : ℤ) where
+module _ (o : Opening) (p : Parts) (prices : List ℕ) (now : ℤ) where
   abbrev call : Answer
   call = decideCall (o .terms) (o .expiry) p now
 
   abbrev callOf : Bool → Bool → Answer
   callOf g k = if not g then Refused 12 else (if not k then Refused 11 else decided o (candidatesOf p) now)
 
-  ask-called : bookAnswer call ≡ storedAnswer (tested o p) (Ask now)
+  ask-called : bookAnswer call ≡ storedAnswer (tested o p prices) (Ask now)
   unfolding decideCall step
   ask-called = go (goodTerms (o .terms)) (goodState (o .terms) p) refl
     where
-      go : (g k : Bool) → goodTerms (o .terms) ≡ g → bookAnswer (callOf g k) ≡ storedAnswer (testedAs (g && k) o p) (Ask now)
+      go : (g k : Bool) → goodTerms (o .terms) ≡ g → bookAnswer (callOf g k) ≡ storedAnswer (testedAs (g && k) o p prices) (Ask now)
       go false k e = refl
       go true false e = refl
       go true true e = on-good-terms (o .terms) (o .expiry) (candidatesOf p) now e
@@ -79,12 +80,12 @@ module _ (o : Opening) (p : Parts) (now : ℤ) where
       go true false h = absurd (never 11 d h)
       go false k h = absurd (never 12 d h)
 
-  fix-called : (book : Bytes) (s n : ℕ) → call ≡ Refused n → (Refused (inBook n) ≡ storedAnswer (tested o p) (Fix now)) × (book ≡ written s book (tested o p) (Fix now))
+  fix-called : (book : Bytes) (s n : ℕ) → call ≡ Refused n → (Refused (inBook n) ≡ storedAnswer (tested o p prices) (Fix now)) × (book ≡ written s book (tested o p prices) (Fix now))
   unfolding decideCall step
   fix-called book s n e = go (goodTerms (o .terms)) (goodState (o .terms) p) refl e
     where
       go : (g k : Bool) → goodTerms (o .terms) ≡ g → callOf g k ≡ Refused n
-          → (Refused (inBook n) ≡ storedAnswer (testedAs (g && k) o p) (Fix now)) × (book ≡ written s book (testedAs (g && k) o p) (Fix now))
+          → (Refused (inBook n) ≡ storedAnswer (testedAs (g && k) o p prices) (Fix now)) × (book ≡ written s book (testedAs (g && k) o p prices) (Fix now))
       go false k q h = let i : 12 ≡ n = cc in rw (← i) (refl, refl)
       go true false q h = let i : 11 ≡ n = cc in rw (← i) (refl, refl)
       go true true q h =
@@ -93,22 +94,23 @@ module _ (o : Opening) (p : Parts) (now : ℤ) where
 
 -- ---- a fix of an open series
 
-module _ (book : Bytes) (s : ℕ) (o : Opening) (c : Candidates) (now : ℤ) where
+module _ (book : Bytes) (s : ℕ) (o : Opening) (h : Holdings) (now : ℤ) where
   abbrev fixAnswer : Answer
-  fixAnswer = storedAnswer (ok (live o c)) (Fix now)
+  fixAnswer = storedAnswer (ok (live o h)) (Fix now)
 
   abbrev fixBook : Bytes
-  fixBook = written s book (ok (live o c)) (Fix now)
+  fixBook = written s book (ok (live o h)) (Fix now)
 
-  fix-waits : (d : Decision) → decided o c now ≡ D.answerOf d → final (D.answerOf d) ≡ false → (Refused 39 ≡ fixAnswer) × (book ≡ fixBook)
+  fix-waits : (d : Decision) → decided o (h .candidates) now ≡ D.answerOf d → final (D.answerOf d) ≡ false → (Refused 39 ≡ fixAnswer) × (book ≡ fixBook)
   unfolding step
-  fix-waits (N.Settle m price samples) e h = (cc, cc)
-  fix-waits N.Void e h = (cc, cc)
-  fix-waits (N.Wait until) e h = rw e (refl, refl)
+  fix-waits (N.Settle m price samples) e f = (cc, cc)
+  fix-waits N.Void e f = (cc, cc)
+  fix-waits (N.Wait until) e f = rw e (refl, refl)
 
-  fix-done : (a : Answer) → decided o c now ≡ a → final a ≡ true → (a ≡ fixAnswer) × (replaced s (fixedRecord o (partsOf c) a now) book ≡ fixBook)
+  fix-done : (a : Answer) → decided o (h .candidates) now ≡ a → final a ≡ true
+      → (a ≡ fixAnswer) × (replaced s (fixedRecord o (partsOf (h .candidates)) (h .slotPrices) a now) book ≡ fixBook)
   unfolding step bytesOf
-  fix-done a e h = rw (e, h) (refl, refl)
+  fix-done a e f = rw (e, f) (refl, refl)
 
 -- ---- the commands on a record that the core tests, by what its call was answered
 
@@ -119,29 +121,32 @@ module _ (book : Bytes) (s : ℕ) (h : Untested book s) (now : ℤ) where
   abbrev p : Parts
   p = partsIn (recordAt s book)
 
-  pub asked : {a : Answer} → call o p now ≡ a → bookAnswer a ≡ answerAt book s (Ask now)
-  asked e = sym (ap bookAnswer e) ∙ ask-called o p now ∙ ap (λ (x : Result Series). storedAnswer x (Ask now)) (open-found book s h)
+  abbrev prices : List ℕ
+  prices = pricesIn (recordAt s book)
+
+  pub asked : {a : Answer} → call o p prices now ≡ a → bookAnswer a ≡ answerAt book s (Ask now)
+  asked e = sym (ap bookAnswer e) ∙ ask-called o p prices now ∙ ap (λ (x : Result Series). storedAnswer x (Ask now)) (open-found book s h)
 
   -- what a fix answers and leaves, of what is stored and of the book
-  in-book : {a : Answer} {after : Bytes} → (a ≡ storedAnswer (tested o p) (Fix now)) × (after ≡ written s book (tested o p) (Fix now))
+  in-book : {a : Answer} {after : Bytes} → (a ≡ storedAnswer (tested o p prices) (Fix now)) × (after ≡ written s book (tested o p prices) (Fix now))
       → (a ≡ answerAt book s (Fix now)) × (after ≡ afterAt book s (Fix now))
   in-book (x, y) =
       let e = open-found book s h in
       (x ∙ ap (λ (z : Result Series). storedAnswer z (Fix now)) e, y ∙ ap (λ (z : Result Series). written s book z (Fix now)) e)
 
-  pub fix-turned : (n : ℕ) → call o p now ≡ Refused n → (Refused (inBook n) ≡ answerAt book s (Fix now)) × (book ≡ afterAt book s (Fix now))
-  fix-turned n e = in-book (fix-called o p now book s n e)
+  pub fix-turned : (n : ℕ) → call o p prices now ≡ Refused n → (Refused (inBook n) ≡ answerAt book s (Fix now)) × (book ≡ afterAt book s (Fix now))
+  fix-turned n e = in-book (fix-called o p prices now book s n e)
 
-  pub fix-pending : (d : Decision) → call o p now ≡ D.answerOf d → final (D.answerOf d) ≡ false → (Refused 39 ≡ answerAt book s (Fix now)) × (book ≡ afterAt book s (Fix now))
-  fix-pending d e f = let (good, dec) = called-good o p now d e in in-book (rw good (fix-waits book s o (candidatesOf p) now d dec f))
+  pub fix-pending : (d : Decision) → call o p prices now ≡ D.answerOf d → final (D.answerOf d) ≡ false → (Refused 39 ≡ answerAt book s (Fix now)) × (book ≡ afterAt book s (Fix now))
+  fix-pending d e f = let (good, dec) = called-good o p prices now d e in in-book (rw good (fix-waits book s o (holding p prices) now d dec f))
 
-  pub fix-made : (d : Decision) → call o p now ≡ D.answerOf d → final (D.answerOf d) ≡ true
-      → (D.answerOf d ≡ answerAt book s (Fix now)) × (replaced s (fixedRecord o p (D.answerOf d) now) book ≡ afterAt book s (Fix now))
+  pub fix-made : (d : Decision) → call o p prices now ≡ D.answerOf d → final (D.answerOf d) ≡ true
+      → (D.answerOf d ≡ answerAt book s (Fix now)) × (replaced s (fixedRecord o p prices (D.answerOf d) now) book ≡ afterAt book s (Fix now))
   fix-made d e f =
-      let (good, dec) = called-good o p now d e in
-      let (x, y) = fix-done book s o (candidatesOf p) now (D.answerOf d) dec f in
+      let (good, dec) = called-good o p prices now d e in
+      let (x, y) = fix-done book s o (holding p prices) now (D.answerOf d) dec f in
       let kept = open-kept book s h (both (goodTerms (o .terms)) (goodState (o .terms) p) good .1) in
-      in-book (rw good (x, ap (λ (z : Parts). replaced s (fixedRecord o z (D.answerOf d) now) book) (sym kept) ∙ y))
+      in-book (rw good (x, ap (λ (z : Parts). replaced s (fixedRecord o z prices (D.answerOf d) now) book) (sym kept) ∙ y))
 
 -- ---- an ask of a fixed series
 

@@ -13,8 +13,7 @@ use Rattle.rules.specs.Bytes.{Bytes, areBytes}
 use Rattle.rules.specs.Entries.{width}
 use Rattle.rules.specs.Journal.{isKnown, commandsIn, journalEntries}
 use Rattle.rules.proofs.Journal.{wide, none-in, commands-back, unknown-last, tail-last}
-use Rattle.claims.proofs.Entries.{drop-bytes}
-use Rattle.claims.proofs.OneForm.{take-bytes}
+use Rattle.rules.proofs.Bytes.{drop-bytes, take-bytes}
 use Rattle.claims.proofs.Demand3.{demand3}
 use Rattle.journal.specs.Split.{firstWidth, ends, entriesIn}
 use Rattle.journal.specs.Whole.{WholeJournal}

@@ -143,6 +143,7 @@ fn put_line(out: &mut [u8], series: u8, answer: Answer) -> usize
             samples,
         } => put_settle(out, series, method, price, samples),
         Answer::Void => put_short(out, b"void", series),
+        Answer::Done => put(out, b"done\n"),
         Answer::Refused(n) => put_short(out, b"refused", n),
     }
 }

@@ -30,7 +30,18 @@ fn offer_open(book: &mut [u8], series: u8, quote: Quote, now: i64) -> Answer
     match result {
         PrintUseResult::Ok(u) => {
             let next = added.state;
-            store_open(book, series, params, max_conf_bps, expiry, next);
+            let slot = u.slot;
+            let price = endian::i64_to_bits(quote.price);
+            store_open(
+                book,
+                series,
+                params,
+                max_conf_bps,
+                expiry,
+                next,
+                slot,
+                price,
+            );
             Answer::Used(u)
         }
         PrintUseResult::Err(e) => Answer::Refused(refusal(e)),

@@ -11,6 +11,7 @@ use book::look::RECORD_SIZE;
 use core_parts::state::SettlementParts;
 use core_terms::params::OracleParams;
 use core_terms::units::UnixTimestamp;
+use core_uses::uses::Index;
 use record_read::contents::read_contents;
 use record_test::status::Status;
 use record_test::status::status_at;
@@ -56,6 +57,8 @@ pub fn open(
                 max_conf_bps,
                 expiry,
                 SettlementParts::empty(),
+                Index::None,
+                0,
             );
             Answer::Opened
         }

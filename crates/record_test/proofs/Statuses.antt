@@ -1,5 +1,5 @@
 -- What is stored in a record, by its tag and the tests that the code makes.
-use Prim.Native.Nat.{ℕ, zero, suc, _≤_, _<_}
+use Prim.Native.Nat.{ℕ, zero, suc, _+_, _≤_, _<_}
 use mathlib.Core.Path.{_≡_, refl, sym, ap, _∙_}
 use mathlib.Core.Bool.{Bool, true, false, not, _&&_}
 use mathlib.Core.List.{[], _∷_}
@@ -8,6 +8,7 @@ use lib.ListN.{length, take, drop, drop-of-length-le}
 use lib.IntN.{ℤ}
 use lib.Dec.{ltb, eqb}
 use lib.Arith.{lt-of-le-ne}
+use lib.Bits.{bitAnd, bitOr, or-add-and, and-le-l, and-le-r}
 use borrow.Author.Tests.{ltb-true, ltb-false, eq-eqb, ne-eqb, eqb-true, eqb-false}
 use Rattle.rules.specs.Log.{if_then_else_, every}
 use Rattle.rules.specs.Bytes.{Bytes, allZero, little, unsignedAt}
@@ -15,7 +16,7 @@ use Rattle.rules.specs.Answers.{ok, refused, Answer, Refused}
 use Rattle.rules.specs.Terms.{Terms, goodTerms}
 use Rattle.rules.specs.State.{Parts, candidatesOf, goodState, decideCall}
 use Rattle.rules.specs.Series.{empty, live, decided}
-use Rattle.rules.specs.Record.{recordSize, bookSize, seriesCount, openingIn, partsIn, tagIn, fixingTimeIn, seriesIn, bodyTests, openTests, fixedTests, standing, acceptable, stored}
+use Rattle.rules.specs.Record.{recordSize, bookSize, seriesCount, goodPrices, openingIn, partsIn, holdingsIn, tagIn, fixingTimeIn, seriesIn, bodyTests, openTests, fixedTests, standing, acceptable, stored}
 use Rattle.rules.specs.Book.{recordAt, look}
 use Rattle.rules.proofs.Bools.{both, and-true, and-false}
 use Rattle.book.specs.Looks.{Allowed}
@@ -47,25 +48,29 @@ module _ (bs : Bytes) where
   pub not-padded : eqb (unsignedAt bs 37 3) 0 ≡ false → every (bodyTests bs) ≡ false
   not-padded e = simp (e, and-false)
 
-  -- where they are, by the terms and the state
-  pub body-is : {t : Terms} {s : Parts} → t ≡ openingIn bs .terms → s ≡ partsIn bs → unsignedAt bs 37 3 ≡ 0
-      → every (bodyTests bs) ≡ goodTerms t && goodState t s
-  body-is et es e = simp (eq-eqb (unsignedAt bs 37 3) 0 e, and-true) (λ i. goodTerms (sym et i) && goodState (sym et i) (sym es i))
+  -- where the slot prices are not right
+  pub not-priced : goodPrices (holdingsIn bs) ≡ false → every (bodyTests bs) ≡ false
+  not-priced e = simp (e, and-false)
 
-  -- where they are, an open and a fixed record
-  pub open-status : (b : Bool) → tagIn bs ≡ 1 → unsignedAt bs 37 3 ≡ 0 → every (openTests bs) ≡ b → (if b then statusAs S.Untested bs else refused 11) ≡ stored bs
+  -- where they are zero and the prices are right, by the terms and the state
+  pub body-is : {t : Terms} {s : Parts} → t ≡ openingIn bs .terms → s ≡ partsIn bs → unsignedAt bs 37 3 ≡ 0 → goodPrices (holdingsIn bs) ≡ true
+      → every (bodyTests bs) ≡ goodTerms t && goodState t s
+  body-is et es e p = simp (eq-eqb (unsignedAt bs 37 3) 0 e, p, and-true) (λ i. goodTerms (sym et i) && goodState (sym et i) (sym es i))
+
+  -- there, an open and a fixed record
+  pub open-status : (b : Bool) → tagIn bs ≡ 1 → unsignedAt bs 37 3 ≡ 0 → goodPrices (holdingsIn bs) ≡ true → every (openTests bs) ≡ b → (if b then statusAs S.Untested bs else refused 11) ≡ stored bs
   unfolding stored acceptable seriesIn
-  open-status b t p f = rw (t, body-is refl refl p, f) (go (goodBody bs) b)
+  open-status b t p g f = rw (t, body-is refl refl p g, f) (go (goodBody bs) b)
     where
-      go : (x y : Bool) → (if y then (if x then ok (live (openingIn bs) (candidatesOf (partsIn bs))) else refused 11) else refused 11)
-          ≡ (if x && y then ok (live (openingIn bs) (candidatesOf (partsIn bs))) else refused 11)
+      go : (x y : Bool) → (if y then (if x then ok (live (openingIn bs) (holdingsIn bs)) else refused 11) else refused 11)
+          ≡ (if x && y then ok (live (openingIn bs) (holdingsIn bs)) else refused 11)
       go true y = refl
       go false true = refl
       go false false = refl
 
-  pub fixed-status : (b : Bool) → tagIn bs ≡ 2 → unsignedAt bs 37 3 ≡ 0 → b ≡ goodBody bs && every (fixedTests bs) → (if b then statusAs S.Fixed bs else refused 11) ≡ stored bs
+  pub fixed-status : (b : Bool) → tagIn bs ≡ 2 → unsignedAt bs 37 3 ≡ 0 → goodPrices (holdingsIn bs) ≡ true → b ≡ goodBody bs && every (fixedTests bs) → (if b then statusAs S.Fixed bs else refused 11) ≡ stored bs
   unfolding stored acceptable seriesIn
-  fixed-status b t p f = rw (t, body-is refl refl p, f)
+  fixed-status b t p g f = rw (t, body-is refl refl p g, f)
 
   -- the decision at the fixing time
   abbrev pub again : Answer
@@ -86,44 +91,76 @@ module _ (bs : Bytes) where
 
   -- what is stored, by the status
   pub status-stored : statusAs (statusOf bs) bs ≡ stored bs
-  status-stored = go (eqb (tagIn bs) 0) (ltb 2 (tagIn bs)) (eqb (unsignedAt bs 37 3) 0) (eqb (tagIn bs) 1) refl refl refl refl
+  status-stored = go (eqb (tagIn bs) 0) (ltb 2 (tagIn bs)) (eqb (unsignedAt bs 37 3) 0) (goodPrices (holdingsIn bs)) (eqb (tagIn bs) 1) refl refl refl refl refl
     where
       zero-tag : (b : Bool) → tagIn bs ≡ 0 → allZero bs ≡ b → statusAs (if b then S.Empty else S.Refused 11) bs ≡ stored bs
       zero-tag true t e = sym (stored-zero true t e)
       zero-tag false t e = sym (stored-zero false t e)
 
-      one-tag : (b : Bool) → tagIn bs ≡ 1 → unsignedAt bs 37 3 ≡ 0 → every (openTests bs) ≡ b → statusAs (if b then S.Untested else S.Refused 11) bs ≡ stored bs
-      one-tag true t p e = open-status true t p e
-      one-tag false t p e = open-status false t p e
+      one-tag : (b : Bool) → tagIn bs ≡ 1 → unsignedAt bs 37 3 ≡ 0 → goodPrices (holdingsIn bs) ≡ true → every (openTests bs) ≡ b → statusAs (if b then S.Untested else S.Refused 11) bs ≡ stored bs
+      one-tag true t p g e = open-status true t p g e
+      one-tag false t p g e = open-status false t p g e
 
-      two-tag : (b : Bool) → tagIn bs ≡ 2 → unsignedAt bs 37 3 ≡ 0 → b ≡ goodBody bs && every (fixedTests bs) → statusAs (if b then S.Fixed else S.Refused 11) bs ≡ stored bs
-      two-tag true t p e = fixed-status true t p e
-      two-tag false t p e = fixed-status false t p e
+      two-tag : (b : Bool) → tagIn bs ≡ 2 → unsignedAt bs 37 3 ≡ 0 → goodPrices (holdingsIn bs) ≡ true → b ≡ goodBody bs && every (fixedTests bs) → statusAs (if b then S.Fixed else S.Refused 11) bs ≡ stored bs
+      two-tag true t p g e = fixed-status true t p g e
+      two-tag false t p g e = fixed-status false t p g e
 
-      go : (x y p z : Bool) → eqb (tagIn bs) 0 ≡ x → ltb 2 (tagIn bs) ≡ y → eqb (unsignedAt bs 37 3) 0 ≡ p → eqb (tagIn bs) 1 ≡ z
-          → statusAs (if x then (if allZero bs then S.Empty else S.Refused 11) else (if y then S.Refused 11 else (if not p then S.Refused 11 else
-          (if z then (if every (openTests bs) then S.Untested else S.Refused 11) else (if goodBody bs && every (fixedTests bs) then S.Fixed else S.Refused 11))))) bs ≡ stored bs
-      go true y p z ex ey ep ez = zero-tag (allZero bs) (eqb-true (tagIn bs) 0 ex) refl
-      go false true p z ex ey ep ez = sym (stored-above (ltb-true 2 (tagIn bs) ey))
-      go false false false z ex ey ep ez = sym (stored-spoilt (eqb-false (tagIn bs) 0 ex) (not-padded ep))
-      go false false true true ex ey ep ez = one-tag (every (openTests bs)) (eqb-true (tagIn bs) 1 ez) (eqb-true (unsignedAt bs 37 3) 0 ep) refl
-      go false false true false ex ey ep ez =
+      go : (x y p g z : Bool) → eqb (tagIn bs) 0 ≡ x → ltb 2 (tagIn bs) ≡ y → eqb (unsignedAt bs 37 3) 0 ≡ p → goodPrices (holdingsIn bs) ≡ g → eqb (tagIn bs) 1 ≡ z
+          → statusAs (if x then (if allZero bs then S.Empty else S.Refused 11) else (if y then S.Refused 11 else (if not p then S.Refused 11 else (if not g then S.Refused 11 else
+          (if z then (if every (openTests bs) then S.Untested else S.Refused 11) else (if goodBody bs && every (fixedTests bs) then S.Fixed else S.Refused 11)))))) bs ≡ stored bs
+      go true y p g z ex ey ep eg ez = zero-tag (allZero bs) (eqb-true (tagIn bs) 0 ex) refl
+      go false true p g z ex ey ep eg ez = sym (stored-above (ltb-true 2 (tagIn bs) ey))
+      go false false false g z ex ey ep eg ez = sym (stored-spoilt (eqb-false (tagIn bs) 0 ex) (not-padded ep))
+      go false false true false z ex ey ep eg ez = sym (stored-spoilt (eqb-false (tagIn bs) 0 ex) (not-priced eg))
+      go false false true true true ex ey ep eg ez = one-tag (every (openTests bs)) (eqb-true (tagIn bs) 1 ez) (eqb-true (unsignedAt bs 37 3) 0 ep) eg refl
+      go false false true true false ex ey ep eg ez =
           let small = ltb-false 2 (tagIn bs) ey in
           let some : 0 < tagIn bs = lt-of-le-ne (omega arith) (λ e. eqb-false (tagIn bs) 0 ex (sym e)) in
           let more : 1 < tagIn bs = lt-of-le-ne (omega arith) (λ e. eqb-false (tagIn bs) 1 ez (sym e)) in
           let two : tagIn bs ≡ 2 = omega arith in
-          two-tag (goodBody bs && every (fixedTests bs)) two (eqb-true (unsignedAt bs 37 3) 0 ep) refl
+          two-tag (goodBody bs && every (fixedTests bs)) two (eqb-true (unsignedAt bs 37 3) 0 ep) eg refl
+
+  -- what is known of an empty record, and of one that is still to be tested
+  abbrev statusBy : Bool → Bool → Bool → Bool → Bool → Bool → Bool → Bool → Status
+  statusBy x a y p g z o f =
+      if x then (if a then S.Empty else S.Refused 11) else (if y then S.Refused 11 else (if not p then S.Refused 11 else (if not g then S.Refused 11 else
+      (if z then (if o then S.Untested else S.Refused 11) else (if f then S.Fixed else S.Refused 11)))))
+
+  pub empty-zero : statusOf bs ≡ S.Empty → allZero bs ≡ true
+  empty-zero e = go (eqb (tagIn bs) 0) (allZero bs) (ltb 2 (tagIn bs)) (eqb (unsignedAt bs 37 3) 0) (goodPrices (holdingsIn bs)) (eqb (tagIn bs) 1) (every (openTests bs)) (goodBody bs && every (fixedTests bs)) e
+    where
+      go : (x a y p g z o f : Bool) → statusBy x a y p g z o f ≡ S.Empty → a ≡ true
+      go true true y p g z o f e = refl
+      go true false y p g z o f e = cc
+      go false a true p g z o f e = cc
+      go false a false false g z o f e = cc
+      go false a false true false z o f e = cc
+      go false a false true true true true f e = cc
+      go false a false true true true false f e = cc
+      go false a false true true false o true e = cc
+      go false a false true true false o false e = cc
+
+  pub untested-priced : statusOf bs ≡ S.Untested → goodPrices (holdingsIn bs) ≡ true
+  untested-priced e = go (eqb (tagIn bs) 0) (allZero bs) (ltb 2 (tagIn bs)) (eqb (unsignedAt bs 37 3) 0) (goodPrices (holdingsIn bs)) (eqb (tagIn bs) 1) (every (openTests bs)) (goodBody bs && every (fixedTests bs)) e
+    where
+      go : (x a y p g z o f : Bool) → statusBy x a y p g z o f ≡ S.Untested → g ≡ true
+      go true true y p g z o f e = cc
+      go true false y p g z o f e = cc
+      go false a true p g z o f e = cc
+      go false a false false g z o f e = cc
+      go false a false true false z o f e = cc
+      go false a false true true z o f e = refl
 
 -- ---- bytes that are all zero, eight at a time
 
-pub zero-word : (n : ℕ) (bs : Bytes) → little (take n bs) ≡ 0 → allZero bs ≡ allZero (drop n bs)
+zero-word : (n : ℕ) (bs : Bytes) → little (take n bs) ≡ 0 → allZero bs ≡ allZero (drop n bs)
 zero-word zero bs e = refl
 zero-word (suc n) [] e = refl
 zero-word (suc n) (b ∷ bs) e =
     let z : b ≡ 0 = omega arith in
     let r : little (take n bs) ≡ 0 = omega arith in rw z (zero-word n bs r)
 
-pub other-word : (n : ℕ) (bs : Bytes) → (little (take n bs) ≡ 0 → ⊥) → allZero bs ≡ false
+other-word : (n : ℕ) (bs : Bytes) → (little (take n bs) ≡ 0 → ⊥) → allZero bs ≡ false
 other-word n bs h = go (allZero bs) refl
   where
     zero-all : (n : ℕ) (bs : Bytes) → allZero bs ≡ true → little (take n bs) ≡ 0
@@ -137,6 +174,29 @@ other-word n bs h = go (allZero bs) refl
     go : (b : Bool) → allZero bs ≡ b → allZero bs ≡ false
     go true e = absurd (h (zero-all n bs e))
     go false e = e
+
+-- eight bytes, and those after them
+pub word-and-rest : (n : ℕ) (bs : Bytes) → allZero bs ≡ eqb (little (take n bs)) 0 && allZero (drop n bs)
+word-and-rest n bs = go (eqb (little (take n bs)) 0) refl
+  where
+    go : (b : Bool) → eqb (little (take n bs)) 0 ≡ b → allZero bs ≡ b && allZero (drop n bs)
+    go true e = zero-word n bs (eqb-true (little (take n bs)) 0 e)
+    go false e = other-word n bs (eqb-false (little (take n bs)) 0 e)
+
+-- two words are zero as their bits together are
+pub either-zero : (a b : ℕ) → eqb (bitOr a b) 0 ≡ eqb a 0 && eqb b 0
+either-zero a b = go (eqb a 0) (eqb b 0) refl refl
+  where
+    sums : bitOr a b + bitAnd a b ≡ a + b
+    sums = or-add-and a b
+
+    go : (x y : Bool) → eqb a 0 ≡ x → eqb b 0 ≡ y → eqb (bitOr a b) 0 ≡ x && y
+    go true true p q =
+        let e = eqb-true a 0 p in
+        let f = eqb-true b 0 q in
+        eq-eqb (bitOr a b) 0 (omega (arith, sums))
+    go true false p q = let f = eqb-false b 0 q in ne-eqb (bitOr a b) 0 (λ z. f (omega (arith, sums, and-le-l a b)))
+    go false y p q = let e = eqb-false a 0 p in ne-eqb (bitOr a b) 0 (λ z. e (omega (arith, sums, and-le-r a b)))
 
 -- the last bytes at once
 pub last-word : (n : ℕ) (bs : Bytes) → length bs ≤ n → eqb (little (take n bs)) 0 ≡ allZero bs
@@ -174,6 +234,10 @@ not-refused book s h = go (eqb (length book) bookSize) (ltb s seriesCount) h
     go true true e = refl
     go true false e = cc
     go false d e = cc
+
+-- where it was allowed, the status is that of the record
+pub looked : (book : Bytes) (s : ℕ) → Allowed book s → statusIn (look book s) ≡ statusOf (recordAt s book)
+looked book s h = ap statusIn h
 
 -- ---- the decision on a record
 

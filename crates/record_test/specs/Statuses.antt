@@ -8,9 +8,9 @@ use Rattle.rules.specs.Log.{if_then_else_, every}
 use Rattle.rules.specs.Bytes.{Bytes, allZero, unsignedAt}
 use Rattle.rules.specs.Answers as R
 use Rattle.rules.specs.Terms.{goodTerms}
-use Rattle.rules.specs.State.{candidatesOf, goodState, decideCall}
+use Rattle.rules.specs.State.{goodState, decideCall}
 use Rattle.rules.specs.Series.{Series, empty, live, fixed}
-use Rattle.rules.specs.Record.{recordSize, openingIn, partsIn, tagIn, fixingTimeIn, openTests, fixedTests, stored}
+use Rattle.rules.specs.Record.{recordSize, goodPrices, openingIn, partsIn, holdingsIn, tagIn, fixingTimeIn, openTests, fixedTests, stored}
 use Rattle.rules.specs.Book.{look}
 use Rattle.record_read.specs.Records.{outcomeIn}
 use Rattle.record_test.specs.declared.status.Status.{Status}
@@ -25,8 +25,8 @@ goodBody bs = goodTerms (openingIn bs .terms) && goodState (openingIn bs .terms)
 -- what is stored in a record of this status; untested are the terms and the state
 abbrev pub statusAs : Status → Bytes → R.Result Series
 statusAs S.Empty bs = R.ok empty
-statusAs S.Untested bs = if goodBody bs then R.ok (live (openingIn bs) (candidatesOf (partsIn bs))) else R.refused 11
-statusAs S.Fixed bs = R.ok (fixed (openingIn bs) (candidatesOf (partsIn bs)) (outcomeIn bs) (fixingTimeIn bs))
+statusAs S.Untested bs = if goodBody bs then R.ok (live (openingIn bs) (holdingsIn bs)) else R.refused 11
+statusAs S.Fixed bs = R.ok (fixed (openingIn bs) (holdingsIn bs) (outcomeIn bs) (fixingTimeIn bs))
 statusAs (S.Refused r) bs = R.refused r
 
 -- the status of a record's bytes
@@ -35,6 +35,7 @@ statusOf bs =
     if eqb (tagIn bs) 0 then (if allZero bs then S.Empty else S.Refused 11) else
     if ltb 2 (tagIn bs) then S.Refused 11 else
     if not (eqb (unsignedAt bs 37 3) 0) then S.Refused 11 else
+    if not (goodPrices (holdingsIn bs)) then S.Refused 11 else
     if eqb (tagIn bs) 1 then (if every (openTests bs) then S.Untested else S.Refused 11) else
     if goodBody bs && every (fixedTests bs) then S.Fixed else S.Refused 11
 

@@ -20,6 +20,7 @@ use fields::read::u8_at;
 use fields::read::u16_at;
 use fields::read::u24_at;
 use fields::read::u64_at;
+use record_prices::prices::prices_stand;
 
 // What a record is found to be. Of an open one, terms and candidates are still to be tested: the
 // core's calls do that, and their 12 or 11 is the book's 11.
@@ -32,19 +33,19 @@ pub enum Status {
 
 // ---- the tests
 
-// Eight bytes at a time, then those that are left.
+// Eight bytes at a time, then those that are left. No word ends the loop, so that the compiler takes
+// several at once.
 fn all_zero(bytes: &[u8]) -> bool
     ensures { λ r. ⌜ r ≡ allZero (now (bytes .entry)) ⌝ }
 {
     let n = bytes.len() / 8;
+    let mut seen: u64 = 0;
     let mut i = 0;
     while i < n {
-        if u64_at(bytes, 8 * i) != 0 {
-            return false;
-        }
+        seen = seen | u64_at(bytes, 8 * i);
         i += 1;
     }
-    u64_at(bytes, 8 * n) == 0
+    (seen | u64_at(bytes, 8 * n)) == 0
 }
 
 // No outcome: samples, method, fixing time and price zero.
@@ -119,6 +120,9 @@ fn status_of(bytes: &[u8]) -> Status
         return Status::Refused(11);
     }
     if u24_at(bytes, 37) != 0 {
+        return Status::Refused(11);
+    }
+    if !prices_stand(bytes) {
         return Status::Refused(11);
     }
     if tag == 1 {

@@ -1,15 +1,17 @@
 -- The fields of a record in the groups that are written, and a record over the bytes that are there.
-use Prim.Native.Nat.{ℕ}
-use mathlib.Core.List.{List, [], _∷_}
+use Prim.Native.Nat.{ℕ, _+_, _*_}
+use mathlib.Core.Bool.{_&&_}
+use mathlib.Core.List.{List, [], _∷_, _++_}
 use lib.IntN.{ℤ}
-use lib.Dec.{eqb}
+use lib.Dec.{ltb, eqb}
 use lib.ListN.{length}
+use lib.Seq.{sets}
 use Rattle.rules.specs.Log.{if_then_else_}
 use Rattle.rules.specs.Bytes.{Bytes, zeros, concat, bytes, signedBytes}
 use Rattle.rules.specs.Terms.{Terms}
 use Rattle.rules.specs.State.{Parts}
-use Rattle.rules.specs.Series.{Opening}
-use Rattle.rules.specs.Record.{recordSize, fields}
+use Rattle.rules.specs.Series.{Opening, slotPlaces}
+use Rattle.rules.specs.Record.{recordSize, slotPricesAt, fields, priceBytes}
 use Rattle.record_write.specs.declared.record.Outcome.{Outcome}
 
 -- ---- the groups
@@ -35,9 +37,13 @@ lastFields fallbackTime fallbackPrice windowChanged linkChanged fallbackChanged 
 
 -- ---- the record
 
-abbrev pub recordOf : Opening → Parts → Outcome → Bytes
-recordOf o s u = concat (fields (u .tag) o s (u .samples) (u .method) (u .«fixing_time») (u .price))
+abbrev pub recordOf : Opening → Parts → List ℕ → Outcome → Bytes
+recordOf o s prices u = concat (fields (u .tag) o s (u .samples) (u .method) (u .«fixing_time») (u .price)) ++ priceBytes prices
 
 -- a record over the bytes that are there; bytes of another length stay
 abbrev pub recordOver : Bytes → Bytes → Bytes
 recordOver old new = if eqb (length old) recordSize then new else old
+
+-- the price of slot i over the bytes that are there; bytes of another length stay, and so do all for a number above 31
+abbrev pub pricedOver : Bytes → ℕ → ℕ → Bytes
+pricedOver old i price = if eqb (length old) recordSize && ltb i slotPlaces then sets old (slotPricesAt + 8 * i) (bytes 8 price) else old

@@ -1,4 +1,5 @@
-// The fields of a record written over its own part of the book. What is written is not tested:
-// `record_store` is to call it.
+// The fields of a record, and the price of one slot, written over its own part of the book. What is
+// written is not tested: `record_store` is to call it.
+pub mod price;
 mod put;
 pub mod record;

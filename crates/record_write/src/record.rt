@@ -5,7 +5,7 @@ ghost use lib.IntN.{pos};
 ghost use lib.ListN.{length, getD};
 ghost use lib.Seq.{sets};
 ghost use Rattle.rules.specs.Bytes.{concat, bytes, signedBytes};
-ghost use Rattle.rules.specs.Record.{recordSize, eight, eightSigned};
+ghost use Rattle.rules.specs.Record.{recordSize, eight, eightSigned, pricesIn};
 ghost use Rattle.core_terms.specs.Params.{termsOf};
 ghost use Rattle.core_parts.specs.States.{storedOf};
 ghost use Rattle.record_read.specs.Records.{openingWith};
@@ -123,7 +123,7 @@ fn write_last(slice: &mut [u8], state: SettlementParts, outcome: Outcome)
 
 // ---- the record as a whole
 
-// Writes a record over a record's bytes. Bytes of another length stay.
+// Writes a record over a record's bytes, whose slot prices stay. Bytes of another length stay too.
 pub fn write_record(
     part: &mut [u8],
     params: OracleParams,
@@ -132,7 +132,7 @@ pub fn write_record(
     state: SettlementParts,
     outcome: Outcome,
 )
-    ensures { λ _. ⌜ now (part .exit) ≡ recordOver (now (part .entry)) (recordOf (openingWith params «max_conf_bps» expiry) (storedOf state) outcome) ⌝ }
+    ensures { λ _. ⌜ now (part .exit) ≡ recordOver (now (part .entry)) (recordOf (openingWith params «max_conf_bps» expiry) (storedOf state) (pricesIn (now (part .entry))) outcome) ⌝ }
 {
     if part.len() != RECORD_SIZE {
         return;

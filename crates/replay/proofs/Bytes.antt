@@ -9,8 +9,7 @@ use mir.Val.{Fits}
 use Rattle.rules.specs.Log.{all}
 use Rattle.rules.specs.Bytes.{Bytes, areBytes}
 use Rattle.claims.specs.Demand3.{Demand3}
-use Rattle.claims.proofs.Entries.{drop-bytes, are-bytes}
-use Rattle.claims.proofs.OneForm.{take-bytes}
+use Rattle.rules.proofs.Bytes.{are-bytes, drop-bytes, take-bytes}
 use Rattle.claims.proofs.Demand3.{demand3}
 use Rattle.replay.specs.Entries.{startOf, entriesTo, entriesOf}
 

@@ -1,21 +1,44 @@
 -- Numbers in bytes: reading and writing undo each other. One law for every width.
-use Prim.Native.Nat.{ℕ, zero, suc, _+_, _*_, _-_, _/_, _%_, _^_, _<_}
-use mathlib.Core.Path.{_≡_, refl, ap}
+use Prim.Native.Nat.{ℕ, zero, suc, _+_, _*_, _-_, _/_, _%_, _^_, _<_, _≤_}
+use mathlib.Core.Path.{_≡_, refl, sym, ap, ap₂, _∙_}
 use mathlib.Core.Bool.{Bool, true, false}
 use mathlib.Core.List.{[], _∷_, _++_}
 use native.Mathlib.Omega.{arith}
 use native.Mathlib.Nat.{add-zero, add-suc, suc-add, pow-suc}
-use lib.ListN.{length, take, set}
+use lib.ListN.{length, getD, take, drop, set, replicate, length-take, length-drop}
 use lib.Seq.{sets}
 use lib.IntN.{ℤ, pos, negsuc}
 use lib.Signed.{mag}
-use lib.Dec.{ltb}
+use lib.Dec.{ltb, eqb}
 use lib.Pow.{pow-pos}
-use borrow.Author.Tests.{ltb-true, lt-ltb, le-ltb}
+use mir.Syntax.{w8}
+use mir.Val.{Fits}
+use borrow.Author.Tests.{ltb-true, lt-ltb, le-ltb, eqb-true}
 use Rattle.rules.proofs.Bools.{both}
 use Rattle.rules.proofs.Integers.{tests}
 use Rattle.rules.specs.Log.{if_then_else_}
-use Rattle.rules.specs.Bytes.{Bytes, areBytes, little, signed, bytes, word, fitsUnsigned}
+use Rattle.rules.specs.Bytes.{Bytes, areBytes, allZero, little, signed, unsignedAt, bytes, word, fitsUnsigned}
+
+-- ---- lists of bytes
+
+-- what a slice of bytes holds
+pub are-bytes : (bs : Bytes) → ((i : ℕ) → Fits w8 (getD bs i 0)) → areBytes bs ≡ true
+are-bytes [] h = refl
+are-bytes (b ∷ bs) h = rw (lt-ltb b 256 (h 0 .fits), are-bytes bs (λ i. h (suc i)))
+
+pub drop-bytes : (n : ℕ) (bs : Bytes) → areBytes bs ≡ true → areBytes (drop n bs) ≡ true
+drop-bytes zero bs h = h
+drop-bytes (suc n) [] h = refl
+drop-bytes (suc n) (b ∷ bs) h = drop-bytes n bs (both (ltb b 256) (areBytes bs) h .1)
+
+pub take-bytes : (n : ℕ) (bs : Bytes) → areBytes bs ≡ true → areBytes (take n bs) ≡ true
+take-bytes zero bs h = refl
+take-bytes (suc n) [] h = refl
+take-bytes (suc n) (b ∷ bs) h = let (x, y) = both (ltb b 256) (areBytes bs) h in rw (x, take-bytes n bs y)
+
+pub all-zero : (bs : Bytes) → allZero bs ≡ true → replicate (length bs) 0 ≡ bs
+all-zero [] h = refl
+all-zero (b ∷ bs) h = let (x, y) = both (eqb b 0) (allZero bs) h in ap₂ _∷_ (sym (eqb-true b 0 x)) (all-zero bs y)
 
 -- ---- unsigned
 
@@ -53,6 +76,13 @@ bytes-little (b ∷ bs) h =
     let low : (b + 256 * little bs) % 256 ≡ b = omega arith in
     let high : (b + 256 * little bs) / 256 ≡ little bs = omega arith in
     rw (low, high, bytes-little bs y)
+
+-- the number in n bytes writes back as these bytes
+pub field-back : (bs : Bytes) → areBytes bs ≡ true → (i n : ℕ) → i + n ≤ length bs → bytes n (unsignedAt bs i n) ≡ take n (drop i bs)
+unfolding unsignedAt
+field-back bs are i n h =
+    let size : length (take n (drop i bs)) ≡ n = simp (length-take, length-drop) (omega arith) in
+    ap (λ (x : ℕ). bytes x (little (take n (drop i bs)))) (sym size) ∙ bytes-little (take n (drop i bs)) (take-bytes n (drop i bs) (drop-bytes i bs are))
 
 -- ---- two's complement in w + 1 bits
 

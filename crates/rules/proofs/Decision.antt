@@ -8,7 +8,7 @@ use lib.Signed.{ltZ}
 use lib.Dec.{ltb}
 use Rattle.rules.specs.Log.{if_then_else_, total}
 use Rattle.rules.specs.Bytes.{fits}
-use Rattle.rules.specs.Answers.{Result, ok, refused, Method, number, Answer, Opened, Used, Wait, Settle, Refused}
+use Rattle.rules.specs.Answers.{Result, ok, refused, Method, number, Answer, Opened, Used, Wait, Settle, Done, Refused}
 use Rattle.rules.specs.Terms.{Terms}
 use Rattle.rules.specs.Mean.{mean}
 use Rattle.rules.specs.Taking.{Candidates}
@@ -82,6 +82,7 @@ byPrice Answer.Void = true
 byPrice Opened = true
 byPrice (Used s l f) = true
 byPrice (Wait t) = true
+byPrice Done = true
 byPrice (Refused r) = true
 
 pub decide-by-price : (t : Terms) (E : ℤ) (c : Candidates) (now : ℤ) → byPrice (decide t E c now) ≡ true

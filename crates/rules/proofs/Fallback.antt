@@ -11,7 +11,7 @@ use Rattle.rules.proofs.Logs.{all-mono, first-none, first-some, first-e
 use Rattle.rules.specs.Log.{Log, ε, _▹_, if_then_else_, maybe, first, all}
 use Rattle.rules.specs.Taking.{isFallback}
 use Rattle.rules.specs.Series.{Opening}
-use Rattle.rules.specs.Ledger.{Posting, candidates, qualified, greatest, fallback}
+use Rattle.rules.specs.Ledger.{Posting, Event, prints, candidates, qualified, greatest, fallback}
 
 module _ (o : Opening) where
   -- p comes after the best so far
@@ -107,11 +107,14 @@ module _ (o : Opening) where
       go false none f r e = rw (r f)
       go false (some q) f r e = cc
 
-  pub fallback-more : (ps : Log Posting) (p : Posting) → ltZ (pos 0) (p .print .published) ≡ true
-      → fallback o (ps ▹ p) ≡ (if isFallback (o .terms) (o .expiry) (candidates o ps) (p .print) then some p else fallback o ps)
+  pub fallback-more : (es : Log Event) (p : Posting) → ltZ (pos 0) (p .print .published) ≡ true
+      → fallback o (prints es ▹ p) ≡ (if isFallback (o .terms) (o .expiry) (candidates o es) (p .print) then some p else fallback o (prints es))
   unfolding candidates beats
-  fallback-more ps p h = go (fallback o ps) refl
+  fallback-more es p h = go (fallback o ps) refl
     where
+      ps : Log Posting
+      ps = prints es
+
       go : (b : Option Posting) → fallback o ps ≡ b
           → fallback o (ps ▹ p) ≡ (if qualified o p && ltZ (maybe (pos 0) (λ q. q .print .published) b) (p .print .published) then some p else b)
       go none e = rw h (step ps p none e (λ z. no-fallback ps e))

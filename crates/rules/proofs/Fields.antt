@@ -4,6 +4,7 @@ use mathlib.Core.Path.{_≡_, refl, sym, ap, _∙_}
 use mathlib.Core.Bool.{Bool, true, false, not, _||_}
 use mathlib.Core.Option.{Option, none, some}
 use mathlib.Core.List.{List, [], _∷_}
+use lib.ListN.{getD}
 use native.Mathlib.Omega.{arith}
 use native.Mathlib.Nat.{lt-of-le-of-lt, lt-of-lt-of-le, le-of-suc-le-suc}
 use lib.IntN.{ℤ, pos}
@@ -12,21 +13,21 @@ use lib.Pow.{pow-mono}
 use borrow.Author.Tests.{ltb-true, lt-ltb, leb-true, leb-false, le-leb, eq-eqb}
 use Rattle.rules.proofs.Bools.{both, every-at}
 use Rattle.rules.proofs.Integers.{tests}
-use Rattle.rules.proofs.Logs.{all-mono, first-all, last-all, lastAt-all, size-map, all-map}
-use Rattle.rules.proofs.Sums.{Σ<-ext, Σ<-le, below}
-use Rattle.rules.proofs.Place.{held, held-small, held-pow, small, sum-low}
+use Rattle.rules.proofs.Logs.{all-mono, first-all, last-all, lastAt-all, size-map, all-map, list-at}
+use Rattle.rules.proofs.Sums.{Σ<-ext, Σ<-le, all<-yes, below}
+use Rattle.rules.proofs.Place.{held, held-small, held-pow, few-slots, ofPrints, prints-all, holder-all, small, sum-low}
 use Rattle.rules.proofs.Series.{accept-facts, accept-small, taken-all, opening-good, no-freeze}
-use Rattle.rules.proofs.Prices.{size-upTo, FairAnswer, opened, used, wait, fair, void, refusal, decide-fair}
-use Rattle.rules.specs.Log.{Log, ε, _▹_, if_then_else_, _orElse_, maybe, size, put, all, last, lastAt, map, every, upTo}
+use Rattle.rules.proofs.Prices.{size-upTo, FairAnswer, opened, used, wait, fair, void, done, refusal, decide-fair}
+use Rattle.rules.specs.Log.{Log, ε, _▹_, if_then_else_, _orElse_, maybe, size, put, all, last, lastAt, map, every, upTo, listFrom}
 use Rattle.rules.specs.Bytes.{fitsUnsigned, fits}
 use Rattle.rules.specs.Answers.{ok, refused, Method, number, Answer, final}
 use Rattle.rules.specs.Terms.{goodTerms, termsTests, slots, goodExponent}
 use Rattle.rules.specs.Prints.{Print, Quote, accept}
 use Rattle.rules.specs.Mean.{rounded, numerator, denominator, mean}
 use Rattle.rules.specs.Taking.{links, follows}
-use Rattle.rules.specs.Series.{Opening, Command, Open, Offer, Ask, Fix, empty, decided}
-use Rattle.rules.specs.Record.{openingFits, candidatesFit, outcomeFits, seriesFits}
-use Rattle.rules.specs.Ledger.{goodOpen, opening, Posting, postings, holder, chain, fallback, greatest, fillsSlot, candidates, pricesFor, Freeze, decidedOn, freezes, freeze, takenPrints, since, ledger}
+use Rattle.rules.specs.Series.{Opening, Command, Open, Offer, Ask, Fix, Withdraw, slotPlaces, empty, decided}
+use Rattle.rules.specs.Record.{openingFits, candidatesFit, pricesFit, outcomeFits, seriesFits}
+use Rattle.rules.specs.Ledger.{goodOpen, opening, Posting, Event, posted, withdrawal, eventNow, events, prints, holder, chain, fallback, greatest, movesWindow, candidates, priceAt, slotPrices, holdings, pricesFor, Freeze, decidedOn, freezes, freeze, takenEvents, since, ledger}
 
 -- ---- prints and commands in range
 
@@ -35,12 +36,33 @@ commandFits (Open o) = openingFits o
 commandFits (Offer q now) = every (fits (q .price) ∷ fits (q .published) ∷ fits now ∷ [])
 commandFits (Ask now) = fits now
 commandFits (Fix now) = fits now
+commandFits (Withdraw now i) = fits now
 
 abbrev pub postingTests : Posting → List Bool
 postingTests p = small p ∷ fits (p .print .published) ∷ fits (p .now) ∷ []
 
 abbrev pub postingFits : Posting → Bool
 postingFits p = every (postingTests p)
+
+abbrev pub eventFits : Event → Bool
+eventFits (posted p) = postingFits p
+eventFits (withdrawal now i) = fits now
+
+event-now : (e : Event) → eventFits e ≡ true → fits (eventNow e) ≡ true
+event-now (posted p) h = every-at (postingTests p) 2 h
+event-now (withdrawal now i) h = h
+
+maybe-event : (x : Option Event) → maybe true eventFits x ≡ true → fits (maybe (pos 0) eventNow x) ≡ true
+maybe-event none h = refl
+maybe-event (some e) h = event-now e h
+
+event-prints : (e : Event) → eventFits e ≡ true → ofPrints postingFits e ≡ true
+event-prints (posted p) h = h
+event-prints (withdrawal now i) h = refl
+
+prints-small : (e : Event) → eventFits e ≡ true → ofPrints small e ≡ true
+prints-small (posted p) h = every-at (postingTests p) 0 h
+prints-small (withdrawal now i) h = refl
 
 posting-price : (p : Posting) → postingFits p ≡ true → fitsUnsigned 8 (p .print .price) ≡ true
 posting-price p h = lt-ltb (p .print .price) (2 ^ 64) (lt-of-le-of-lt (leb-true (p .print .price) (2 ^ 63) (every-at (postingTests p) 0 h)) (lit< tt))
@@ -85,43 +107,45 @@ module _ (o : Opening) where
       go true l r = ltb-true _ _ (both (ltb (size ts) (o .terms .k)) (follows (o .terms) (o .expiry) ts (p .print)) l .0)
       go false l r = r
 
-pub bits-below : (o : Opening) (ps : Log Posting) → candidates o ps .bits < 2 ^ slots (o .terms)
+pub bits-below : (o : Opening) (es : Log Event) → candidates o es .bits < 2 ^ slots (o .terms)
 unfolding candidates
-bits-below o ps =
-    rw (Σ<-ext (slots (o .terms)) (λ i. maybe 0 (λ p. 2 ^ i) (holder o ps i)) (λ i. held (holder o ps i) * 2 ^ i) (λ i _. held-pow (holder o ps i) i))
-    (below (λ i. held (holder o ps i)) (λ i. held-small (holder o ps i)) (slots (o .terms)))
+bits-below o es =
+    rw (Σ<-ext (slots (o .terms)) (λ i. maybe 0 (λ p. 2 ^ i) (holder o es i)) (λ i. held (holder o es i) * 2 ^ i) (λ i _. held-pow (holder o es i) i))
+    (below (λ i. held (holder o es i)) (λ i. held-small (holder o es i)) (slots (o .terms)))
 
 -- ---- the ledger's candidates
 
-module _ (o : Opening) (ps : Log Posting) (g : goodTerms (o .terms) ≡ true) (h : all postingFits ps ≡ true) where
-  slots-32 : slots (o .terms) ≤ 32
-  unfolding goodTerms
-  slots-32 = leb-true (slots (o .terms)) 32 (every-at (termsTests (o .terms)) 3 g)
-
+module _ (o : Opening) (es : Log Event) (g : goodTerms (o .terms) ≡ true) (h : all eventFits es ≡ true) where
   k-5 : o .terms .k ≤ 5
   unfolding goodTerms
   k-5 = leb-true (o .terms .k) 5 (every-at (termsTests (o .terms)) 8 g)
 
-  chain-fits : all postingFits (chain o ps) ≡ true
-  chain-fits = chain-all o postingFits ps h
+  prints-fit : all postingFits (prints es) ≡ true
+  prints-fit = prints-all postingFits es (all-mono eventFits (ofPrints postingFits) event-prints es h)
 
-  fallback-fits : maybe true postingFits (fallback o ps) ≡ true
+  holder-fits : (i : ℕ) → maybe true postingFits (holder o es i) ≡ true
+  holder-fits i = holder-all o postingFits es i (all-mono eventFits (ofPrints postingFits) event-prints es h)
+
+  chain-fits : all postingFits (chain o (prints es)) ≡ true
+  chain-fits = chain-all o postingFits (prints es) prints-fit
+
+  fallback-fits : maybe true postingFits (fallback o (prints es)) ≡ true
   unfolding fallback
-  fallback-fits = first-all (greatest o ps) postingFits ps h
+  fallback-fits = first-all (greatest o (prints es)) postingFits (prints es) prints-fit
 
-  bits-fit : fitsUnsigned 4 (candidates o ps .bits) ≡ true
-  bits-fit = lt-ltb _ _ (lt-of-lt-of-le (bits-below o ps) (pow-mono slots-32))
+  bits-fit : fitsUnsigned 4 (candidates o es .bits) ≡ true
+  bits-fit = lt-ltb _ _ (lt-of-lt-of-le (bits-below o es) (pow-mono (few-slots o g)))
 
-  sum-fit : fitsUnsigned 16 (candidates o ps .sum) ≡ true
-  sum-fit = lt-ltb _ _ (lt-of-le-of-lt (sum-low o ps g (all-mono postingFits small (λ p f. every-at (postingTests p) 0 f) ps h)) (lit< tt))
+  sum-fit : fitsUnsigned 16 (candidates o es .sum) ≡ true
+  sum-fit = lt-ltb _ _ (lt-of-le-of-lt (sum-low o es g (all-mono eventFits (ofPrints small) prints-small es h)) (lit< tt))
 
-  few-links : leb (size (map (λ p. p .print .published) (chain o ps))) 5 ≡ true
-  few-links = le-leb (size (map (λ p. p .print .published) (chain o ps))) 5 (omega (arith, chain-size o ps, k-5))
+  few-links : leb (size (map (λ p. p .print .published) (chain o (prints es)))) 5 ≡ true
+  few-links = le-leb (size (map (λ p. p .print .published) (chain o (prints es)))) 5 (omega (arith, chain-size o (prints es), k-5))
 
-  same-links : eqb (size (map (λ p. p .print .price) (chain o ps))) (size (map (λ p. p .print .published) (chain o ps))) ≡ true
-  same-links = eq-eqb _ _ (size-map (λ p. p .print .price) (chain o ps) ∙ sym (size-map (λ p. p .print .published) (chain o ps)))
+  same-links : eqb (size (map (λ p. p .print .price) (chain o (prints es)))) (size (map (λ p. p .print .published) (chain o (prints es)))) ≡ true
+  same-links = eq-eqb _ _ (size-map (λ p. p .print .price) (chain o (prints es)) ∙ sym (size-map (λ p. p .print .published) (chain o (prints es))))
 
-  pub candidates-fit : candidatesFit (candidates o ps) ≡ true
+  pub candidates-fit : candidatesFit (candidates o es) ≡ true
   unfolding candidatesFit candidates
   candidates-fit =
       rw (
@@ -129,40 +153,53 @@ module _ (o : Opening) (ps : Log Posting) (g : goodTerms (o .terms) ≡ true) (h
         sum-fit,
         few-links,
         same-links,
-        all-map fits (λ p. p .print .published) (chain o ps) (all-mono postingFits (λ p. fits (p .print .published)) (λ p f. every-at (postingTests p) 1 f) (chain o ps) chain-fits),
-        all-map (fitsUnsigned 8) (λ p. p .print .price) (chain o ps) (all-mono postingFits (λ p. fitsUnsigned 8 (p .print .price)) posting-price (chain o ps) chain-fits),
-        maybe-published (fallback o ps) fallback-fits,
-        maybe-price (fallback o ps) fallback-fits,
-        maybe-now (lastAt (fillsSlot o) ps) (lastAt-all postingFits (fillsSlot o) ps h),
-        maybe-now (last (chain o ps)) (last-all postingFits (chain o ps) chain-fits),
-        maybe-now (fallback o ps) fallback-fits,
+        all-map fits (λ p. p .print .published) (chain o (prints es)) (all-mono postingFits (λ p. fits (p .print .published)) (λ p f. every-at (postingTests p) 1 f) (chain o (prints es)) chain-fits),
+        all-map (fitsUnsigned 8) (λ p. p .print .price) (chain o (prints es)) (all-mono postingFits (λ p. fitsUnsigned 8 (p .print .price)) posting-price (chain o (prints es)) chain-fits),
+        maybe-published (fallback o (prints es)) fallback-fits,
+        maybe-price (fallback o (prints es)) fallback-fits,
+        maybe-event (lastAt (movesWindow o) es) (lastAt-all eventFits (movesWindow o) es h),
+        maybe-now (last (chain o (prints es))) (last-all postingFits (chain o (prints es)) chain-fits),
+        maybe-now (fallback o (prints es)) fallback-fits,
       )
+
+  price-fits : (i : ℕ) → fitsUnsigned 8 (priceAt o es i) ≡ true
+  price-fits i = go (ltb i (slots (o .terms)))
+    where
+      go : (b : Bool) → fitsUnsigned 8 (if b then maybe 0 (λ p. p .print .price) (holder o es i) else 0) ≡ true
+      go true = maybe-price (holder o es i) (holder-fits i)
+      go false = refl
+
+  pub prices-fit : pricesFit (slotPrices o es) ≡ true
+  unfolding pricesFit slotPrices
+  prices-fit =
+      rw (all<-yes slotPlaces (λ i. fitsUnsigned 8 (getD (listFrom 0 slotPlaces (priceAt o es)) i 0))
+      (λ i l. rw (list-at slotPlaces (priceAt o es) i 0 l) (price-fits i)))
 
   -- ---- samples and the price
 
-  slots-few : size (map (λ p. p .print .price) (upTo (slots (o .terms)) (holder o ps))) ≤ 32
+  slots-few : size (map (λ p. p .print .price) (upTo (slots (o .terms)) (holder o es))) ≤ 32
   slots-few =
       omega (
         arith,
-        size-upTo (slots (o .terms)) (holder o ps),
-        slots-32,
-        Σ<-le (slots (o .terms)) 1 (λ n. held (holder o ps n)) (λ n l. le-of-suc-le-suc (held-small (holder o ps n))),
+        size-upTo (slots (o .terms)) (holder o es),
+        few-slots o g,
+        Σ<-le (slots (o .terms)) 1 (λ n. held (holder o es n)) (λ n l. le-of-suc-le-suc (held-small (holder o es n))),
       )
 
-  chain-few : size (map (λ p. p .print .price) (chain o ps)) ≤ 32
-  chain-few = omega (arith, size-map (λ p. p .print .price) (chain o ps), size-map (λ p. p .print .published) (chain o ps), chain-size o ps, k-5)
+  chain-few : size (map (λ p. p .print .price) (chain o (prints es))) ≤ 32
+  chain-few = omega (arith, size-map (λ p. p .print .price) (chain o (prints es)), size-map (λ p. p .print .published) (chain o (prints es)), chain-size o (prints es), k-5)
 
   fallback-few : (f : Option Posting) → size (map (λ p. p .print .price) (put ε f)) ≤ 32
   fallback-few none = omega arith
   fallback-few (some p) = omega arith
 
-  few : (m : Method) → size (pricesFor o ps m) ≤ 32
+  few : (m : Method) → size (pricesFor o es m) ≤ 32
   unfolding pricesFor
   few Method.Window = slots-few
   few Method.NextPrint = chain-few
   few Method.PartialNextPrint = chain-few
   few Method.PartialWindow = slots-few
-  few Method.Fallback = fallback-few (fallback o ps)
+  few Method.Fallback = fallback-few (fallback o (prints es))
   few Method.Void = omega arith
 
 mean-fits : (s n : ℕ) (e : ℤ) (p : ℕ) → mean s n e ≡ ok p → fitsUnsigned 8 p ≡ true
@@ -178,11 +215,11 @@ mean-fits s n e p h = go (goodExponent e) (eqb n 0) (leb (2 ^ 64) a) refl h
     go true true z q h = cc
     go false y z q h = cc
 
-module _ (o : Opening) (ps : Log Posting) (g : goodTerms (o .terms) ≡ true) (h : all postingFits ps ≡ true) where
-  pub outcome-fits : (t : ℤ) → final (decided o (candidates o ps) t) ≡ true → outcomeFits (decided o (candidates o ps) t) ≡ true
-  outcome-fits t f = go (decide-fair o ps g t) f
+module _ (o : Opening) (es : Log Event) (g : goodTerms (o .terms) ≡ true) (h : all eventFits es ≡ true) where
+  pub outcome-fits : (t : ℤ) → final (decided o (candidates o es) t) ≡ true → outcomeFits (decided o (candidates o es) t) ≡ true
+  outcome-fits t f = go (decide-fair o es g t) f
     where
-      go : {a : Answer} → FairAnswer o ps a → final a ≡ true → outcomeFits a ≡ true
+      go : {a : Answer} → FairAnswer o es a → final a ≡ true → outcomeFits a ≡ true
       go opened f = f
       go used f = f
       go wait f = f
@@ -190,15 +227,16 @@ module _ (o : Opening) (ps : Log Posting) (g : goodTerms (o .terms) ≡ true) (h
           rw (
             lt-ltb (number m) (number Method.Void) (s .byPrice),
             mean-fits _ _ (o .terms .exponent) p (s .priced),
-            lt-ltb n (2 ^ 16) (omega (arith, s .counted, few o ps g h m)),
+            lt-ltb n (2 ^ 16) (omega (arith, s .counted, few o es g h m)),
           )
       go void f = refl
+      go done f = f
       go refusal f = f
 
 -- ---- the ledger
 
-pub postings-fit : (j : Log Command) → all commandFits j ≡ true → all postingFits (postings j) ≡ true
-postings-fit j h = taken-all postingFits commandFits posting j h
+pub events-fit : (j : Log Command) → all commandFits j ≡ true → all eventFits (events j) ≡ true
+events-fit j h = taken-all eventFits commandFits posting (λ now i f. f) j h
   where
     posting : (o : Opening) (q : Quote) (now : ℤ) (p : Print) → commandFits (Offer q now) ≡ true → accept (o .terms .exponent) (o .bps) q ≡ ok p
         → postingFits (record { print = p; now = now }) ≡ true
@@ -227,6 +265,7 @@ opening-fits (j ▹ c) o h e =
     go none (Offer q now) d b e r = cc
     go none (Ask now) d b e r = cc
     go none (Fix now) d b e r = cc
+    go none (Withdraw now i) d b e r = cc
 
 -- what the freeze is: a fix with commands in range ahead of it, and a final decision
 module _ (z : Freeze) where
@@ -245,19 +284,20 @@ module _ (z : Freeze) where
       go none (Open x) d a b e r = (cc, cc)
       go none (Offer q now) d a b e r = (cc, cc)
       go none (Ask now) d a b e r = (cc, cc)
-      go none (Fix now) d a b e r = at (final (decidedOn (opening j) (postings j) now)) e
+      go none (Withdraw now i) d a b e r = (cc, cc)
+      go none (Fix now) d a b e r = at (final (decidedOn (opening j) (events j) now)) e
         where
           at : (t : Bool) → (if t then some (record { ahead = j; now = now }) else none) ≡ some z → goal
           at true e = let y : _≡_ {A = Freeze} (record { ahead = j; now = now }) z = cc in (rw (← y) a, rw (← y) b)
           at false e = (cc, cc)
 
-  pub freeze-final : (j : Log Command) (o : Opening) → freeze j ≡ some z → opening j ≡ some o → final (decided o (candidates o (postings (z .ahead))) (z .now)) ≡ true
+  pub freeze-final : (j : Log Command) (o : Opening) → freeze j ≡ some z → opening j ≡ some o → final (decided o (candidates o (events (z .ahead))) (z .now)) ≡ true
   unfolding freeze opening
   freeze-final ε o f e = cc
   freeze-final (j ▹ c) o f e = go (opening j) (freeze j) c refl refl e f (freeze-final j o)
     where
       goal : Type 0
-      goal = final (decided o (candidates o (postings (z .ahead))) (z .now)) ≡ true
+      goal = final (decided o (candidates o (events (z .ahead))) (z .now)) ≡ true
 
       go : (a : Option Opening) (y : Option Freeze) (c : Command) → opening j ≡ a → freeze j ≡ y → a orElse goodOpen c ≡ some o → y orElse freezes j c ≡ some z
           → (freeze j ≡ some z → opening j ≡ some o → goal) → goal
@@ -265,14 +305,16 @@ module _ (z : Freeze) where
       go none none (Open q) d g e f r = cc
       go none none (Offer q now) d g e f r = cc
       go none none (Ask now) d g e f r = cc
+      go none none (Withdraw now i) d g e f r = cc
       go none none (Fix now) d g e f r = let h = rw d at f in cc
       go (some x) (some y) c d g e f r = r (g ∙ f) (d ∙ e)
       go (some x) none (Open q) d g e f r = cc
       go (some x) none (Offer q now) d g e f r = cc
       go (some x) none (Ask now) d g e f r = cc
-      go (some x) none (Fix now) d g e f r = at (final (decided x (candidates x (postings j)) now)) refl (rw d at f)
+      go (some x) none (Withdraw now i) d g e f r = cc
+      go (some x) none (Fix now) d g e f r = at (final (decided x (candidates x (events j)) now)) refl (rw d at f)
         where
-          at : (b : Bool) → final (decided x (candidates x (postings j)) now) ≡ b → (if b then some (record { ahead = j; now = now }) else none) ≡ some z → goal
+          at : (b : Bool) → final (decided x (candidates x (events j)) now) ≡ b → (if b then some (record { ahead = j; now = now }) else none) ≡ some z → goal
           at true h f =
               let p : _≡_ {A = Freeze} (record { ahead = j; now = now }) z = cc in
               let q : x ≡ o = cc in
@@ -280,20 +322,21 @@ module _ (z : Freeze) where
           at false h f = cc
 
 pub ledger-fits : (j : Log Command) → all commandFits j ≡ true → seriesFits (ledger j) ≡ true
-unfolding ledger takenPrints
+unfolding ledger takenEvents
 ledger-fits j h = go (opening j) (freeze j) refl refl
   where
     go : (o : Option Opening) (z : Option Freeze) → opening j ≡ o → freeze j ≡ z
-        → seriesFits (maybe empty (λ q. since q (candidates q (maybe (postings j) (λ y. postings (y .ahead)) z)) z) o) ≡ true
+        → seriesFits (maybe empty (λ q. since q (holdings q (maybe (events j) (λ y. events (y .ahead)) z)) z) o) ≡ true
     go none z e f = refl
     go (some o) none e f =
-        rw (opening-fits j o h e, candidates-fit o (postings j) (opening-good j o e) (postings-fit j h))
+        rw (opening-fits j o h e, candidates-fit o (events j) (opening-good j o e) (events-fit j h), prices-fit o (events j) (opening-good j o e) (events-fit j h))
     go (some o) (some z) e f =
         let (a, n) = freeze-fits z j h f in
-        let ps = postings (z .ahead) in
+        let es = events (z .ahead) in
         rw (
           opening-fits j o h e,
-          candidates-fit o ps (opening-good j o e) (postings-fit (z .ahead) a),
-          outcome-fits o ps (opening-good j o e) (postings-fit (z .ahead) a) (z .now) (freeze-final z j o f e),
+          candidates-fit o es (opening-good j o e) (events-fit (z .ahead) a),
+          prices-fit o es (opening-good j o e) (events-fit (z .ahead) a),
+          outcome-fits o es (opening-good j o e) (events-fit (z .ahead) a) (z .now) (freeze-final z j o f e),
           n,
         )

@@ -23,7 +23,7 @@ pub record Wide (w : ℕ) : Type 0 where
   pub least : 1 < w → 10 ≤ w
 
 pub wide : (b : ℕ) → Wide (width b)
-wide b = choose (eqb b 1) w38 (choose (eqb b 2) w46 (choose (eqb b 3) w10 (choose (eqb b 4) w10 w1)))
+wide b = choose (eqb b 1) w38 (choose (eqb b 2) w46 (choose (eqb b 3) w10 (choose (eqb b 4) w10 (choose (eqb b 6) w11 w1))))
   where
     choose : (t : Bool) {v w : ℕ} → Wide v → Wide w → Wide (if t then v else w)
     choose true p q = p
@@ -37,6 +37,9 @@ wide b = choose (eqb b 1) w38 (choose (eqb b 2) w46 (choose (eqb b 3) w10 (choos
 
     w10 : Wide 10
     w10 = record { some = omega arith; most = omega arith; least = λ h. omega arith }
+
+    w11 : Wide 11
+    w11 = record { some = omega arith; most = omega arith; least = λ h. omega arith }
 
     w1 : Wide 1
     w1 = record { some = omega arith; most = omega arith; least = λ h. omega arith }

@@ -11,7 +11,9 @@ pub mod State
 pub mod Fields
 pub mod Acceptable
 pub mod Bytes
+pub mod SlotPrices
 pub mod Record
+pub mod Withdraw
 pub mod Examples
 pub mod Decision
 pub mod Slot

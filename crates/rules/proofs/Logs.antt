@@ -1,16 +1,17 @@
 -- Facts about logs: first, last, all, map, and the first n of a list.
-use Prim.Native.Nat.{ℕ, zero, suc, _<_, _≤_}
+use Prim.Native.Nat.{ℕ, zero, suc, _+_, _<_, _≤_}
 use mathlib.Core.Path.{_≡_, refl, sym, ap, ap₂, _∙_, fun-ext}
 use mathlib.Core.Bool.{Bool, true, false, not}
 use mathlib.Core.Option.{Option, none, some}
 use mathlib.Core.List.{List}
 use native.Mathlib.Omega.{arith}
-use lib.ListN.{getD}
+use lib.ListN.{length, getD, set, length-set}
+use lib.Seq.{ext-getD, getD-set-same, getD-set-other}
 use lib.Dec.{eqb}
 use lib.Arith.{lt-of-le-ne}
 use borrow.Author.Tests.{eq-eqb, ne-eqb, eqb-true, eqb-false}
 use Rattle.rules.proofs.Bools.{both}
-use Rattle.rules.specs.Log.{Log, ε, _▹_, if_then_else_, _orElse_, maybe, size, put, all, first, last, lastAt, map, nth, front}
+use Rattle.rules.specs.Log.{Log, ε, _▹_, if_then_else_, _orElse_, maybe, size, put, all, first, last, lastAt, map, nth, front, listFrom}
 
 module _ {A : Type 0} where
   pub all-mono : (P Q : A → Bool) → ((x : A) → P x ≡ true → Q x ≡ true) → (l : Log A) → all P l ≡ true → all Q l ≡ true
@@ -128,6 +129,39 @@ module _ {A : Type 0} where
   front-nth d (l ▹ x) xs h =
       ap₂ _▹_ (front-nth d l xs (λ i m. h i (omega arith) ∙ rw (ne-eqb i (size l) (omega arith))))
       (h (size l) (omega arith) ∙ rw (eq-eqb (size l) (size l) refl))
+
+  -- ---- f at each of the n numbers from i on
+
+  pub length-list : (i n : ℕ) (f : ℕ → A) → length (listFrom i n f) ≡ n
+  length-list i zero f = refl
+  length-list i (suc n) f = ap suc (length-list (suc i) n f)
+
+  pub list-from : (i n : ℕ) (f : ℕ → A) (j : ℕ) (d : A) → j < n → getD (listFrom i n f) j d ≡ f (i + j)
+  list-from i zero f j d l = absurd (omega arith)
+  list-from i (suc n) f zero d l = ap f (omega arith)
+  list-from i (suc n) f (suc j) d l = list-from (suc i) n f j d (omega arith) ∙ ap f (omega arith)
+
+  pub list-at : (n : ℕ) (f : ℕ → A) (j : ℕ) (d : A) → j < n → getD (listFrom 0 n f) j d ≡ f j
+  list-at n f j d l = list-from 0 n f j d l ∙ ap f (omega arith)
+
+  -- the list that reads each place of xs is xs
+  pub list-is : (d : A) (n : ℕ) (f : ℕ → A) (xs : List A) → length xs ≡ n → ((i : ℕ) → i < n → f i ≡ getD xs i d) → listFrom 0 n f ≡ xs
+  list-is d n f xs len h =
+      let m = length-list 0 n f in
+      ext-getD d (listFrom 0 n f) xs (omega arith) (λ i l. list-at n f i d (omega arith) ∙ h i (omega arith))
+
+  -- g is f, but for k
+  pub list-set : (n k : ℕ) (f g : ℕ → A) (v : A) → k < n → g k ≡ v → ((i : ℕ) → (i ≡ k → ⊥) → g i ≡ f i) → listFrom 0 n g ≡ set (listFrom 0 n f) k v
+  list-set n k f g v l e h = list-is v n g (set (listFrom 0 n f) k v) (length-set (listFrom 0 n f) k v ∙ length-list 0 n f) (λ i m. go i m (eqb i k) refl)
+    where
+      go : (i : ℕ) → i < n → (b : Bool) → eqb i k ≡ b → g i ≡ getD (set (listFrom 0 n f) k v) i v
+      go i m true q =
+          let r = eqb-true i k q in
+          let s = length-list 0 n f in
+          rw (r, getD-set-same (listFrom 0 n f) k v v (omega arith)) e
+      go i m false q =
+          let r = eqb-false i k q in
+          rw (getD-set-other (listFrom 0 n f) k i v v r, list-at n f i v m) (h i r)
 
 module _ {A B : Type 0} where
   pub size-map : (f : A → B) (l : Log A) → size (map f l) ≡ size l

@@ -1,9 +1,11 @@
 -- What is written into a record is read back from it, and the ledger's record is acceptable.
-use Prim.Native.Nat.{ℕ, _+_, _*_, _/_, _%_, _^_}
+use Prim.Native.Nat.{ℕ, zero, suc, _+_, _*_, _/_, _%_, _^_, _<_}
 use mathlib.Core.Path.{_≡_, refl, ap, _∙_}
 use mathlib.Core.Bool.{Bool, true, false, _&&_}
 use mathlib.Core.Option.{Option, none, some}
-use mathlib.Core.List.{List, [], _∷_}
+use mathlib.Core.List.{List, [], _∷_, _++_}
+use lib.ListN.{length, getD, take}
+use lib.Seq.{take-at, drop-append-add}
 use native.Mathlib.Omega.{arith}
 use native.Mathlib.Nat.{div-add-mod', mod-lt}
 use lib.IntN.{ℤ, pos}
@@ -12,20 +14,22 @@ use lib.Dec.{ltb, eqb, lit<}
 use lib.Pow.{shr-lt}
 use borrow.Author.Tests.{ltb-true, lt-ltb, eqb-true, eq-eqb, ne-eqb}
 use Rattle.rules.proofs.Bools.{both, test, every-at}
-use Rattle.rules.proofs.Bytes.{little-bytes, signed-word, word-below}
+use Rattle.rules.proofs.Bytes.{length-bytes, little-bytes, signed-word, word-below}
+use Rattle.rules.proofs.Logs.{length-list, list-at, list-is}
+use Rattle.rules.proofs.Sums.{all<-at}
 use Rattle.rules.proofs.State.{fit-at, few-times, parts-back}
 use Rattle.rules.proofs.Decision.{byPrice, decide-by-price}
 use Rattle.rules.proofs.Fields.{commandFits, ledger-fits}
 use Rattle.rules.proofs.Acceptable.{sound, ledger-sound}
-use Rattle.rules.specs.Log.{Log, ε, _▹_, if_then_else_, maybe, size, all, nth, every}
+use Rattle.rules.specs.Log.{Log, ε, _▹_, if_then_else_, maybe, size, all, nth, every, all<, listFrom}
 use Rattle.rules.specs.Bytes.{Bytes, zeros, concat, little, signed, unsignedAt, signedAt, bytes, word, signedBytes, fitsUnsigned, fits}
-use Rattle.rules.specs.Answers.{ok, Method, number, method, Answer, Opened, Used, Wait, Settle, Refused, final}
+use Rattle.rules.specs.Answers.{ok, Method, number, method, Answer, Opened, Used, Wait, Settle, Done, Refused, final}
 use Rattle.rules.specs.Terms.{goodTerms}
 use Rattle.rules.specs.Taking.{Candidates}
 use Rattle.rules.specs.State.{candidatesOf, partsOf, goodState}
-use Rattle.rules.specs.Series.{Opening, Command, Series, empty, live, fixed, decided}
-use Rattle.rules.specs.Record.{methodOf, samplesOf, priceOf, fields, bytesOf, outcome, openingIn, partsIn, tagIn, samplesIn, methodIn, fixingTimeIn, priceIn, seriesIn, bodyTests, fixedTests, acceptable, stored, openingFields, openingFits, candidatesFit, outcomeFits, seriesFits}
-use Rattle.rules.specs.Ledger.{opening, takenPrints, candidates, Freeze, freeze, since, ledger}
+use Rattle.rules.specs.Series.{Opening, Command, Holdings, slotPlaces, Series, empty, live, fixed, decided}
+use Rattle.rules.specs.Record.{methodOf, samplesOf, priceOf, eight, fields, priceBytes, bytesOf, outcome, goodPrices, openingIn, partsIn, pricesIn, holdingsIn, tagIn, samplesIn, methodIn, fixingTimeIn, priceIn, seriesIn, bodyTests, fixedTests, acceptable, stored, openingFields, openingFits, candidatesFit, pricesFit, outcomeFits, seriesFits}
+use Rattle.rules.specs.Ledger.{opening, takenEvents, holdings, Freeze, freeze, since, ledger}
 
 -- ---- single fields
 
@@ -47,10 +51,25 @@ nth-all Q d (l ▹ x) j z h = let (a, b) = both (all Q l) (Q x) h in go (eqb j (
 
 -- ---- the opening and the state
 
-module _ (tag : ℕ) (o : Opening) (c : Candidates) (samples num : ℕ) (time : ℤ) (price : ℕ)
-    (fo : openingFits o ≡ true) (fc : candidatesFit c ≡ true) where
+-- the prices one after the other
+price-read-at : (prices : List ℕ) (i : ℕ) → i < length prices → fitsUnsigned 8 (getD prices i 0) ≡ true → unsignedAt (concat (eight prices)) (8 * i) 8 ≡ getD prices i 0
+unfolding unsignedAt
+price-read-at [] i l f = absurd (omega arith)
+price-read-at (v ∷ vs) zero l f = rw (take-at (bytes 8 v) (concat (eight vs)) 8 (length-bytes 8 v)) (little-bytes 8 v f)
+price-read-at (v ∷ vs) (suc i) l f =
+    let n : 8 * suc i ≡ length (bytes 8 v) + 8 * i = omega (arith, length-bytes 8 v) in
+    rw (n, drop-append-add (bytes 8 v) (concat (eight vs)) (8 * i)) (price-read-at vs i (omega arith) f)
+
+module _ (tag : ℕ) (o : Opening) (h : Holdings) (samples num : ℕ) (time : ℤ) (price : ℕ)
+    (fo : openingFits o ≡ true) (fc : candidatesFit (h .candidates) ≡ true) (fp : pricesFit (h .slotPrices) ≡ true) where
+  abbrev c : Candidates
+  c = h .candidates
+
+  abbrev front : Bytes
+  front = concat (fields tag o (partsOf c) samples num time price)
+
   abbrev R : Bytes
-  R = concat (fields tag o (partsOf c) samples num time price)
+  R = front ++ priceBytes (h .slotPrices)
 
   o-at : (j : ℕ) → test (openingFields o) j ≡ true
   unfolding openingFits
@@ -112,6 +131,37 @@ module _ (tag : ℕ) (o : Opening) (c : Candidates) (samples num : ℕ) (time : 
   pub candidates-read : candidatesOf (partsIn R) ≡ c
   candidates-read = ap candidatesOf parts-read ∙ parts-back c fc
 
+  length-front : length front ≡ 200
+  unfolding fields zeros bytes partsOf
+  length-front = refl
+
+  prices-length : length (h .slotPrices) ≡ slotPlaces
+  unfolding pricesFit
+  prices-length = eqb-true (length (h .slotPrices)) slotPlaces (both (eqb (length (h .slotPrices)) slotPlaces) _ fp .0)
+
+  price-small : (i : ℕ) → i < slotPlaces → fitsUnsigned 8 (getD (h .slotPrices) i 0) ≡ true
+  unfolding pricesFit
+  price-small i l =
+      all<-at slotPlaces (λ j. fitsUnsigned 8 (getD (h .slotPrices) j 0))
+      (both (eqb (length (h .slotPrices)) slotPlaces) (all< slotPlaces (λ j. fitsUnsigned 8 (getD (h .slotPrices) j 0))) fp .1) i l
+
+  pub prices-read : pricesIn R ≡ h .slotPrices
+  unfolding pricesIn priceBytes unsignedAt
+  prices-read = list-is 0 slotPlaces (λ i. unsignedAt R (200 + 8 * i) 8) (h .slotPrices) prices-length at
+    where
+      places : List ℕ
+      places = listFrom 0 slotPlaces (λ i. getD (h .slotPrices) i 0)
+
+      at : (i : ℕ) → i < slotPlaces → unsignedAt R (200 + 8 * i) 8 ≡ getD (h .slotPrices) i 0
+      at i l =
+          let same : getD places i 0 ≡ getD (h .slotPrices) i 0 = list-at slotPlaces (λ j. getD (h .slotPrices) j 0) i 0 l in
+          let m = length-list 0 slotPlaces (λ j. getD (h .slotPrices) j 0) in
+          rw (← length-front) (ap (λ (x : Bytes). little (take 8 x)) (drop-append-add front (concat (eight places)) (8 * i)))
+          ∙ price-read-at places i (omega arith) (rw same (price-small i l)) ∙ same
+
+  pub holdings-read : holdingsIn R ≡ h
+  holdings-read = λ i. record { candidates = candidates-read i; slotPrices = prices-read i }
+
   -- ---- the outcome's fields
 
   samples-read : fitsUnsigned 2 samples ≡ true → samplesIn R ≡ samples
@@ -138,8 +188,8 @@ module _ (tag : ℕ) (o : Opening) (c : Candidates) (samples num : ℕ) (time : 
   unfolding unsignedAt fields zeros bytes partsOf
   tag-read f = little-bytes 1 tag f
 
-  pub body-passes : goodTerms (o .terms) ≡ true → goodState (o .terms) (partsOf c) ≡ true → every (bodyTests R) ≡ true
-  body-passes g s = rw (opening-back, parts-read, g, s, pad-read)
+  pub body-passes : goodTerms (o .terms) ≡ true → goodState (o .terms) (partsOf c) ≡ true → goodPrices h ≡ true → every (bodyTests R) ≡ true
+  body-passes g s p = rw (ap goodPrices holdings-read, p, opening-back, parts-read, g, s, pad-read)
 
 -- ---- outcomes
 
@@ -170,6 +220,7 @@ method-fits Answer.Void = refl
 method-fits Opened = refl
 method-fits (Used s l f) = refl
 method-fits (Wait t) = refl
+method-fits Done = refl
 method-fits (Refused r) = refl
 
 outcome-back : (a : Answer) → final a ≡ true → byPrice a ≡ true → outcome (method (methodOf a)) (priceOf a) (samplesOf a) ≡ a
@@ -178,6 +229,7 @@ outcome-back Answer.Void f h = rw (method-number Method.Void)
 outcome-back Opened f h = cc
 outcome-back (Used s l u) f h = cc
 outcome-back (Wait t) f h = cc
+outcome-back Done f h = cc
 outcome-back (Refused r) f h = cc
 
 -- the outcome that stands in a fixed record is the decision at its fixing time
@@ -204,64 +256,65 @@ fitting Answer.Void h = (refl, refl, refl, refl)
 fitting Opened h = (h, refl, refl, refl)
 fitting (Used s l f) h = (h, refl, refl, refl)
 fitting (Wait t) h = (h, refl, refl, refl)
+fitting Done h = (h, refl, refl, refl)
 fitting (Refused r) h = (h, refl, refl, refl)
 
 -- ---- the series
 
-live-read : (o : Opening) (c : Candidates) → openingFits o ≡ true → candidatesFit c ≡ true → seriesIn (bytesOf (live o c)) ≡ live o c
+live-read : (o : Opening) (h : Holdings) → openingFits o ≡ true → candidatesFit (h .candidates) ≡ true → pricesFit (h .slotPrices) ≡ true → seriesIn (bytesOf (live o h)) ≡ live o h
 unfolding seriesIn bytesOf
-live-read o c fo fc =
-    rw (tag-read 1 o c 0 0 (pos 0) 0 fo fc refl, opening-back 1 o c 0 0 (pos 0) 0 fo fc, candidates-read 1 o c 0 0 (pos 0) 0 fo fc)
+live-read o h fo fc fp =
+    rw (tag-read 1 o h 0 0 (pos 0) 0 fo fc fp refl, opening-back 1 o h 0 0 (pos 0) 0 fo fc fp, holdings-read 1 o h 0 0 (pos 0) 0 fo fc fp)
 
-module _ (o : Opening) (c : Candidates) (a : Answer) (at : ℤ) (fo : openingFits o ≡ true) (fc : candidatesFit c ≡ true) (fa : outcomeFits a ≡ true) (ft : fits at ≡ true) where
-  samples-back : samplesIn (bytesOf (fixed o c a at)) ≡ samplesOf a
+module _ (o : Opening) (h : Holdings) (a : Answer) (at : ℤ) (fo : openingFits o ≡ true) (fc : candidatesFit (h .candidates) ≡ true) (fp : pricesFit (h .slotPrices) ≡ true) (fa : outcomeFits a ≡ true) (ft : fits at ≡ true) where
+  samples-back : samplesIn (bytesOf (fixed o h a at)) ≡ samplesOf a
   unfolding bytesOf
-  samples-back = samples-read 2 o c (samplesOf a) (methodOf a) at (priceOf a) fo fc (fitting a fa .2)
+  samples-back = samples-read 2 o h (samplesOf a) (methodOf a) at (priceOf a) fo fc fp (fitting a fa .2)
 
-  method-back : methodIn (bytesOf (fixed o c a at)) ≡ methodOf a
+  method-back : methodIn (bytesOf (fixed o h a at)) ≡ methodOf a
   unfolding bytesOf
-  method-back = method-read 2 o c (samplesOf a) (methodOf a) at (priceOf a) fo fc (method-fits a)
+  method-back = method-read 2 o h (samplesOf a) (methodOf a) at (priceOf a) fo fc fp (method-fits a)
 
-  fixing-time-back : fixingTimeIn (bytesOf (fixed o c a at)) ≡ at
+  fixing-time-back : fixingTimeIn (bytesOf (fixed o h a at)) ≡ at
   unfolding bytesOf
-  fixing-time-back = time-read 2 o c (samplesOf a) (methodOf a) at (priceOf a) fo fc ft
+  fixing-time-back = time-read 2 o h (samplesOf a) (methodOf a) at (priceOf a) fo fc fp ft
 
-  fixed-price-back : priceIn (bytesOf (fixed o c a at)) ≡ priceOf a
+  fixed-price-back : priceIn (bytesOf (fixed o h a at)) ≡ priceOf a
   unfolding bytesOf
-  fixed-price-back = price-read 2 o c (samplesOf a) (methodOf a) at (priceOf a) fo fc (fitting a fa .3)
+  fixed-price-back = price-read 2 o h (samplesOf a) (methodOf a) at (priceOf a) fo fc fp (fitting a fa .3)
 
-  fixed-opening : openingIn (bytesOf (fixed o c a at)) ≡ o
+  fixed-opening : openingIn (bytesOf (fixed o h a at)) ≡ o
   unfolding bytesOf
-  fixed-opening = opening-back 2 o c (samplesOf a) (methodOf a) at (priceOf a) fo fc
+  fixed-opening = opening-back 2 o h (samplesOf a) (methodOf a) at (priceOf a) fo fc fp
 
-  fixed-candidates : candidatesOf (partsIn (bytesOf (fixed o c a at))) ≡ c
+  fixed-holdings : holdingsIn (bytesOf (fixed o h a at)) ≡ h
   unfolding bytesOf
-  fixed-candidates = candidates-read 2 o c (samplesOf a) (methodOf a) at (priceOf a) fo fc
+  fixed-holdings = holdings-read 2 o h (samplesOf a) (methodOf a) at (priceOf a) fo fc fp
 
-  fixed-tag : tagIn (bytesOf (fixed o c a at)) ≡ 2
+  fixed-tag : tagIn (bytesOf (fixed o h a at)) ≡ 2
   unfolding bytesOf
-  fixed-tag = tag-read 2 o c (samplesOf a) (methodOf a) at (priceOf a) fo fc refl
+  fixed-tag = tag-read 2 o h (samplesOf a) (methodOf a) at (priceOf a) fo fc fp refl
 
-  fixed-read : seriesIn (bytesOf (fixed o c a at)) ≡ fixed o c a at
+  fixed-read : seriesIn (bytesOf (fixed o h a at)) ≡ fixed o h a at
   unfolding seriesIn
   fixed-read =
-      rw (fixed-tag, fixed-opening, fixed-candidates, fixing-time-back, method-back, samples-back, fixed-price-back)
-      (ap (λ x. fixed o c x at) (outcome-back a (fitting a fa .0) (fitting a fa .1)))
+      rw (fixed-tag, fixed-opening, fixed-holdings, fixing-time-back, method-back, samples-back, fixed-price-back)
+      (ap (λ x. fixed o h x at) (outcome-back a (fitting a fa .0) (fitting a fa .1)))
 
-  fixed-body : goodTerms (o .terms) ≡ true → goodState (o .terms) (partsOf c) ≡ true → every (bodyTests (bytesOf (fixed o c a at))) ≡ true
+  fixed-body : goodTerms (o .terms) ≡ true → goodState (o .terms) (partsOf (h .candidates)) ≡ true → goodPrices h ≡ true → every (bodyTests (bytesOf (fixed o h a at))) ≡ true
   unfolding bytesOf
-  fixed-body g s = body-passes 2 o c (samplesOf a) (methodOf a) at (priceOf a) fo fc g s
+  fixed-body g s p = body-passes 2 o h (samplesOf a) (methodOf a) at (priceOf a) fo fc fp g s p
 
-  fixed-acceptable : goodTerms (o .terms) ≡ true → goodState (o .terms) (partsOf c) ≡ true → final (decided o c at) ≡ true → a ≡ decided o c at
-      → acceptable (bytesOf (fixed o c a at)) ≡ true
+  fixed-acceptable : goodTerms (o .terms) ≡ true → goodState (o .terms) (partsOf (h .candidates)) ≡ true → goodPrices h ≡ true → final (decided o (h .candidates) at) ≡ true → a ≡ decided o (h .candidates) at
+      → acceptable (bytesOf (fixed o h a at)) ≡ true
   unfolding acceptable
-  fixed-acceptable g s f e =
+  fixed-acceptable g s p f e =
       let settles : final a ≡ true = ap final e ∙ f in
       rw (
         fixed-tag,
-        fixed-body g s,
+        fixed-body g s p,
         fixed-opening,
-        fixed-candidates,
+        ap (λ (x : Holdings). x .candidates) fixed-holdings,
         fixing-time-back,
         method-back,
         samples-back,
@@ -277,40 +330,41 @@ module _ (o : Opening) (c : Candidates) (a : Answer) (at : ℤ) (fo : openingFit
 pub written-read : (s : Series) → seriesFits s ≡ true → seriesIn (bytesOf s) ≡ s
 unfolding seriesIn bytesOf unsignedAt zeros
 written-read empty h = refl
-written-read (live o c) h =
-    let tests : List Bool = openingFits o ∷ candidatesFit c ∷ [] in
-    live-read o c (every-at tests 0 h) (every-at tests 1 h)
-written-read (fixed o c a at) h =
-    let tests : List Bool = openingFits o ∷ candidatesFit c ∷ outcomeFits a ∷ fits at ∷ [] in
-    fixed-read o c a at (every-at tests 0 h) (every-at tests 1 h) (every-at tests 2 h) (every-at tests 3 h)
+written-read (live o h) f =
+    let tests : List Bool = openingFits o ∷ candidatesFit (h .candidates) ∷ pricesFit (h .slotPrices) ∷ [] in
+    live-read o h (every-at tests 0 f) (every-at tests 1 f) (every-at tests 2 f)
+written-read (fixed o h a at) f =
+    let tests : List Bool = openingFits o ∷ candidatesFit (h .candidates) ∷ pricesFit (h .slotPrices) ∷ outcomeFits a ∷ fits at ∷ [] in
+    fixed-read o h a at (every-at tests 0 f) (every-at tests 1 f) (every-at tests 2 f) (every-at tests 3 f) (every-at tests 4 f)
 
 -- ---- acceptable records
 
 -- a fixed series' outcome is the decision at its fixing time
 abbrev pub honest : Series → Type 0
 honest empty = Unit
-honest (live o c) = Unit
-honest (fixed o c a at) = a ≡ decided o c at
+honest (live o h) = Unit
+honest (fixed o h a at) = a ≡ decided o (h .candidates) at
 
-live-acceptable : (o : Opening) (c : Candidates) → openingFits o ≡ true → candidatesFit c ≡ true → goodTerms (o .terms) ≡ true → goodState (o .terms) (partsOf c) ≡ true
-    → acceptable (bytesOf (live o c)) ≡ true
+live-acceptable : (o : Opening) (h : Holdings) → openingFits o ≡ true → candidatesFit (h .candidates) ≡ true → pricesFit (h .slotPrices) ≡ true
+    → goodTerms (o .terms) ≡ true → goodState (o .terms) (partsOf (h .candidates)) ≡ true → goodPrices h ≡ true
+    → acceptable (bytesOf (live o h)) ≡ true
 unfolding acceptable bytesOf
-live-acceptable o c fo fc g s =
-    rw (tag-read 1 o c 0 0 (pos 0) 0 fo fc refl, body-passes 1 o c 0 0 (pos 0) 0 fo fc g s)
+live-acceptable o h fo fc fp g s p =
+    rw (tag-read 1 o h 0 0 (pos 0) 0 fo fc fp refl, body-passes 1 o h 0 0 (pos 0) 0 fo fc fp g s p)
     (unfold unsignedAt fields zeros bytes partsOf word in refl)
 
 written-acceptable : (s : Series) → seriesFits s ≡ true → sound s ≡ true → honest s → acceptable (bytesOf s) ≡ true
 unfolding acceptable bytesOf unsignedAt zeros
-written-acceptable empty h k e = refl
-written-acceptable (live o c) h k e =
-    let tests : List Bool = openingFits o ∷ candidatesFit c ∷ [] in
-    let sounds : List Bool = goodTerms (o .terms) ∷ goodState (o .terms) (partsOf c) ∷ [] in
-    live-acceptable o c (every-at tests 0 h) (every-at tests 1 h) (every-at sounds 0 k) (every-at sounds 1 k)
-written-acceptable (fixed o c a at) h k e =
-    let tests : List Bool = openingFits o ∷ candidatesFit c ∷ outcomeFits a ∷ fits at ∷ [] in
-    let sounds : List Bool = goodTerms (o .terms) ∷ goodState (o .terms) (partsOf c) ∷ final (decided o c at) ∷ [] in
-    fixed-acceptable o c a at (every-at tests 0 h) (every-at tests 1 h) (every-at tests 2 h) (every-at tests 3 h)
-    (every-at sounds 0 k) (every-at sounds 1 k) (every-at sounds 2 k) e
+written-acceptable empty f k e = refl
+written-acceptable (live o h) f k e =
+    let tests : List Bool = openingFits o ∷ candidatesFit (h .candidates) ∷ pricesFit (h .slotPrices) ∷ [] in
+    let sounds : List Bool = goodTerms (o .terms) ∷ goodState (o .terms) (partsOf (h .candidates)) ∷ goodPrices h ∷ [] in
+    live-acceptable o h (every-at tests 0 f) (every-at tests 1 f) (every-at tests 2 f) (every-at sounds 0 k) (every-at sounds 1 k) (every-at sounds 2 k)
+written-acceptable (fixed o h a at) f k e =
+    let tests : List Bool = openingFits o ∷ candidatesFit (h .candidates) ∷ pricesFit (h .slotPrices) ∷ outcomeFits a ∷ fits at ∷ [] in
+    let sounds : List Bool = goodTerms (o .terms) ∷ goodState (o .terms) (partsOf (h .candidates)) ∷ goodPrices h ∷ final (decided o (h .candidates) at) ∷ [] in
+    fixed-acceptable o h a at (every-at tests 0 f) (every-at tests 1 f) (every-at tests 2 f) (every-at tests 3 f) (every-at tests 4 f)
+    (every-at sounds 0 k) (every-at sounds 1 k) (every-at sounds 2 k) (every-at sounds 3 k) e
 
 pub written-stored : (s : Series) → seriesFits s ≡ true → sound s ≡ true → honest s → stored (bytesOf s) ≡ ok s
 unfolding stored
@@ -322,7 +376,7 @@ ledger-honest : (j : Log Command) → honest (ledger j)
 unfolding ledger
 ledger-honest j = go (opening j) (freeze j)
   where
-    go : (o : Option Opening) (z : Option Freeze) → honest (maybe empty (λ q. since q (candidates q (takenPrints j)) z) o)
+    go : (o : Option Opening) (z : Option Freeze) → honest (maybe empty (λ q. since q (holdings q (takenEvents j)) z) o)
     go none z = tt
     go (some o) none = tt
     go (some o) (some z) = refl

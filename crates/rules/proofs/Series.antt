@@ -3,23 +3,24 @@ use Prim.Native.Nat.{ℕ, _*_, _^_}
 use mathlib.Core.Path.{_≡_, refl, sym, ap, _∙_}
 use mathlib.Core.Bool.{Bool, true, false, not, _&&_, _||_}
 use mathlib.Core.Option.{Option, none, some}
+use lib.ListN.{set}
 use lib.IntN.{ℤ, pos, natAbs}
 use lib.Signed.{ltZ, leZ, natAbs-le}
 use lib.Dec.{ltb, leb, eqb}
-use borrow.Author.Tests.{ltb-true, le-leb, eqb-false, lt-ltb}
+use borrow.Author.Tests.{ltb-true, ltb-false, le-leb, lt-leb, eqb-false, lt-ltb}
 use native.Mathlib.Omega.{arith}
 use Rattle.rules.proofs.Bools.{both}
 use Rattle.rules.proofs.Integers.{lt-le-trans, le-false, lt-false}
 use Rattle.rules.proofs.Logs.{all-put}
-use Rattle.rules.proofs.Place.{candidates-none, candidates-more, place-unusable, small, sum-fits}
-use Rattle.rules.specs.Log.{Log, ε, _▹_, if_then_else_, _orElse_, maybe, size, put, all}
+use Rattle.rules.proofs.Place.{ofPrints, candidates-bit, holdings-none, holdings-more, holdings-freed, holdings-kept, place-unusable, small, sum-fits}
+use Rattle.rules.specs.Log.{Log, ε, _▹_, if_then_else_, _orElse_, isSome, maybe, size, put, all}
 use Rattle.rules.specs.Bytes.{fits}
 use Rattle.rules.specs.Answers.{Result, ok, refused, Answer, Used, Refused, final, isUsed}
-use Rattle.rules.specs.Terms.{Terms, goodTerms}
+use Rattle.rules.specs.Terms.{Terms, slots, goodTerms}
 use Rattle.rules.specs.Prints.{Print, Quote, eqZ, goodPrint, newPrint, accept}
-use Rattle.rules.specs.Taking.{Candidates, slotFor, isLink, isFallback, usable, timesFit, sumFits, printAnswer, place}
-use Rattle.rules.specs.Series.{Opening, Command, Open, Offer, Ask, Fix, empty, live, fixed, noCandidates, keeps, leaves, decided, offered, waiting, step, changed, after}
-use Rattle.rules.specs.Ledger.{goodOpen, opening, Posting, accepted, taken, postings, candidates, Freeze, freezes, freeze, takenPrints, since, ledger}
+use Rattle.rules.specs.Taking.{Candidates, slotFor, isLink, isFallback, usable, timesFit, sumFits, printAnswer}
+use Rattle.rules.specs.Series.{Opening, Command, Open, Offer, Ask, Fix, Withdraw, Holdings, empty, live, fixed, noHoldings, keeps, leaves, decided, offerHeld, offered, waiting, withdrawing, step, changed, after}
+use Rattle.rules.specs.Ledger.{goodOpen, opening, Posting, Event, posted, withdrawal, accepted, taken, events, candidates, holder, holdings, Freeze, freezes, freeze, takenEvents, since, ledger}
 
 -- ---- what an accepted print is
 
@@ -65,12 +66,12 @@ orElse-none : {A : Type 0} (a b : Option A) → a orElse b ≡ none → a ≡ no
 orElse-none none b e = refl
 orElse-none (some x) b e = e
 
-no-postings : (j : Log Command) → opening j ≡ none → postings j ≡ ε
-unfolding opening postings
-no-postings ε e = refl
-no-postings (j ▹ c) e =
+no-events : (j : Log Command) → opening j ≡ none → events j ≡ ε
+unfolding opening events
+no-events ε e = refl
+no-events (j ▹ c) e =
     let h : opening j ≡ none = orElse-none (opening j) (goodOpen c) e in
-    rw (no-postings j h, h)
+    rw (no-events j h, h)
 
 pub no-freeze : (j : Log Command) → opening j ≡ none → freeze j ≡ none
 unfolding opening freeze
@@ -84,6 +85,7 @@ no-freeze (j ▹ c) e =
     go (Offer q now) h = refl
     go (Ask now) h = refl
     go (Fix now) h = rw h
+    go (Withdraw now i) h = refl
 
 pub opening-good : (j : Log Command) (o : Opening) → opening j ≡ some o → goodTerms (o .terms) ≡ true
 unfolding opening
@@ -100,23 +102,26 @@ opening-good (j ▹ c) o e = go (opening j) c refl e (opening-good j o)
     go none (Offer q now) d e r = cc
     go none (Ask now) d e r = cc
     go none (Fix now) d e r = cc
+    go none (Withdraw now i) d e r = cc
 
--- ---- a test that every print taken from these commands passes
+-- ---- a test that every event of these commands passes
 
-pub taken-all : (P : Posting → Bool) (ok-offer : Command → Bool)
-    → ((o : Opening) (q : Quote) (now : ℤ) (p : Print) → ok-offer (Offer q now) ≡ true → accept (o .terms .exponent) (o .bps) q ≡ ok p → P (record { print = p; now = now }) ≡ true)
-    → (j : Log Command) → all ok-offer j ≡ true → all P (postings j) ≡ true
-unfolding postings
-taken-all P good h ε a = refl
-taken-all P good h (j ▹ c) a =
+pub taken-all : (P : Event → Bool) (good : Command → Bool)
+    → ((o : Opening) (q : Quote) (now : ℤ) (p : Print) → good (Offer q now) ≡ true → accept (o .terms .exponent) (o .bps) q ≡ ok p → P (posted (record { print = p; now = now })) ≡ true)
+    → ((now : ℤ) (i : ℕ) → good (Withdraw now i) ≡ true → P (withdrawal now i) ≡ true)
+    → (j : Log Command) → all good j ≡ true → all P (events j) ≡ true
+unfolding events
+taken-all P good h w ε a = refl
+taken-all P good h w (j ▹ c) a =
     let (aj, ac) = both (all good j) (good c) a in
-    all-put P (postings j) (taken (opening j) c) (taken-all P good h j aj) (go (opening j) c ac)
+    all-put P (events j) (taken (opening j) c) (taken-all P good h w j aj) (go (opening j) c ac)
   where
     go : (x : Option Opening) (c : Command) → good c ≡ true → maybe true P (taken x c) ≡ true
     go none c a = refl
     go (some o) (Open q) a = refl
     go (some o) (Ask now) a = refl
     go (some o) (Fix now) a = refl
+    go (some o) (Withdraw now i) a = w now i a
     go (some o) (Offer q now) a = at (timesFit (o .terms) (o .expiry)) (accept (o .terms .exponent) (o .bps) q) refl
       where
         at : (b : Bool) (r : Result Print) → accept (o .terms .exponent) (o .bps) q ≡ r → maybe true P (if b then accepted now r else none) ≡ true
@@ -130,14 +135,18 @@ inRange (Open o) = true
 inRange (Offer q now) = fits (q .price)
 inRange (Ask now) = true
 inRange (Fix now) = true
+inRange (Withdraw now i) = true
 
-pub postings-small : (j : Log Command) → all inRange j ≡ true → all small (postings j) ≡ true
-postings-small j h = taken-all small inRange (λ o q now p f e. accept-small (o .terms .exponent) (o .bps) q p f e) j h
+pub events-small : (j : Log Command) → all inRange j ≡ true → all (ofPrints small) (events j) ≡ true
+events-small j h = taken-all (ofPrints small) inRange (λ o q now p f e. accept-small (o .terms .exponent) (o .bps) q p f e) (λ now i f. refl) j h
 
 -- ---- one more command
 
--- an offer that is not used leaves the candidates as they were, and one that is used places its print
-module _ (o : Opening) (c : Candidates) (p : Print) (now : ℤ) where
+-- an offer that is not used leaves the holdings as they were, and one that is used places its print
+module _ (o : Opening) (h : Holdings) (p : Print) (now : ℤ) where
+  abbrev c : Candidates
+  c = h .candidates
+
   abbrev t : Terms
   t = o .terms
 
@@ -145,7 +154,7 @@ module _ (o : Opening) (c : Candidates) (p : Print) (now : ℤ) where
   E = o .expiry
 
   pub offered-changed : timesFit t E && sumFits t E c p ≡ true
-      → maybe (live o c) (λ s. s) (changed (offered o c now (ok p))) ≡ live o (place t E c p now)
+      → maybe (live o h) (λ s. s) (changed (offered o h now (ok p))) ≡ live o (offerHeld o h now (ok p))
   unfolding printAnswer
   offered-changed f = rw f (go (usable t E c p) refl)
     where
@@ -153,77 +162,100 @@ module _ (o : Opening) (c : Candidates) (p : Print) (now : ℤ) where
       a u = if not u then Refused 14 else Used (slotFor t E c p) (if isLink t E c p then some (size (c .times)) else none) (isFallback t E c p)
 
       go : (u : Bool) → usable t E c p ≡ u
-          → maybe (live o c) (λ s. s) (changed (if isUsed (a u) then leaves (a u) (live o (place t E c p now)) else keeps (a u))) ≡ live o (place t E c p now)
+          → maybe (live o h) (λ s. s) (changed (if isUsed (a u) then leaves (a u) (live o (offerHeld o h now (ok p))) else keeps (a u))) ≡ live o (offerHeld o h now (ok p))
       go true e = refl
-      go false e = ap (live o) (sym (place-unusable t E c p now e))
+      go false e = ap (live o) (sym kept)
+        where
+          unfilled : (f : Option ℕ) (a b : Bool) → isSome f || a || b ≡ false → maybe (h .slotPrices) (λ i. set (h .slotPrices) i (p .price)) f ≡ h .slotPrices
+          unfilled none a b e = refl
+          unfilled (some i) a b e = cc
 
-  offered-late : timesFit t E ≡ false → maybe (live o c) (λ s. s) (changed (offered o c now (ok p))) ≡ live o c
+          kept : offerHeld o h now (ok p) ≡ h
+          kept = λ i. record { candidates = place-unusable t E c p now e i; slotPrices = unfilled (slotFor t E c p) (isLink t E c p) (isFallback t E c p) e i }
+
+  offered-late : timesFit t E ≡ false → maybe (live o h) (λ s. s) (changed (offered o h now (ok p))) ≡ live o h
   unfolding printAnswer
   offered-late f = rw f
 
 module _ (j : Log Command) (range : all inRange j ≡ true) where
   after-empty : (c : Command) → opening j ≡ none → after empty c ≡ ledger (j ▹ c)
-  unfolding step ledger takenPrints opening freeze postings
-  after-empty (Open o) e = rw (e, no-freeze j e, no-postings j e) (go (goodTerms (o .terms)))
+  unfolding step ledger takenEvents opening freeze events
+  after-empty (Open o) e = rw (e, no-freeze j e, no-events j e) (go (goodTerms (o .terms)))
     where
-      go : (b : Bool) → maybe empty (λ s. s) (changed (if b then leaves Answer.Opened (live o noCandidates) else keeps (Refused 12)))
-          ≡ maybe empty (λ q. live q (candidates q ε)) (if b then some o else none)
-      go true = rw (candidates-none o)
+      go : (b : Bool) → maybe empty (λ s. s) (changed (if b then leaves Answer.Opened (live o noHoldings) else keeps (Refused 12)))
+          ≡ maybe empty (λ q. live q (holdings q ε)) (if b then some o else none)
+      go true = ap (live o) (sym (holdings-none o))
       go false = refl
   after-empty (Offer q now) e = rw e
   after-empty (Ask now) e = rw e
   after-empty (Fix now) e = rw e
+  after-empty (Withdraw now i) e = rw e
 
-  after-offer : (o : Opening) (q : Quote) (now : ℤ) → opening j ≡ some o → fits (q .price) ≡ true
-      → maybe (live o (candidates o (postings j))) (λ s. s) (changed (offered o (candidates o (postings j)) now (accept (o .terms .exponent) (o .bps) q)))
-      ≡ live o (candidates o (put (postings j) (if timesFit (o .terms) (o .expiry) then accepted now (accept (o .terms .exponent) (o .bps) q) else none)))
-  after-offer o q now e h = go (accept (o .terms .exponent) (o .bps) q) (timesFit (o .terms) (o .expiry)) refl refl
-    where
-      c : Candidates
-      c = candidates o (postings j)
+  module _ (o : Opening) (e : opening j ≡ some o) where
+    abbrev h : Holdings
+    h = holdings o (events j)
 
-      go : (a : Result Print) (b : Bool) → accept (o .terms .exponent) (o .bps) q ≡ a → timesFit (o .terms) (o .expiry) ≡ b
-          → maybe (live o c) (λ s. s) (changed (offered o c now a)) ≡ live o (candidates o (put (postings j) (if b then accepted now a else none)))
-      go (refused r) true _ _ = refl
-      go (refused r) false _ _ = refl
-      go (ok p) true i f =
-          let x : Posting = record { print = p; now = now } in
-          let (g, m) = accept-facts (o .terms .exponent) (o .bps) q p i in
-          offered-changed o c p now (rw (f, sum-fits o (postings j) x (opening-good j o e) (postings-small j range) (accept-small (o .terms .exponent) (o .bps) q p h i)))
-          ∙ ap (live o) (sym (candidates-more o (postings j) x (good-positive p g .1)))
-      go (ok p) false i f = offered-late o c p now f
+    after-offer : (q : Quote) (now : ℤ) → fits (q .price) ≡ true
+        → maybe (live o h) (λ s. s) (changed (offered o h now (accept (o .terms .exponent) (o .bps) q)))
+        ≡ live o (holdings o (put (events j) (if timesFit (o .terms) (o .expiry) then accepted now (accept (o .terms .exponent) (o .bps) q) else none)))
+    after-offer q now r = go (accept (o .terms .exponent) (o .bps) q) (timesFit (o .terms) (o .expiry)) refl refl
+      where
+        go : (a : Result Print) (b : Bool) → accept (o .terms .exponent) (o .bps) q ≡ a → timesFit (o .terms) (o .expiry) ≡ b
+            → maybe (live o h) (λ s. s) (changed (offered o h now a)) ≡ live o (holdings o (put (events j) (if b then accepted now a else none)))
+        go (refused r) true _ _ = refl
+        go (refused r) false _ _ = refl
+        go (ok p) true i f =
+            let x : Posting = record { print = p; now = now } in
+            let (g, m) = accept-facts (o .terms .exponent) (o .bps) q p i in
+            offered-changed o h p now (rw (f, sum-fits o (events j) x (opening-good j o e) (events-small j range) (accept-small (o .terms .exponent) (o .bps) q p r i)))
+            ∙ ap (live o) (sym (holdings-more o (events j) x (opening-good j o e) (good-positive p g .1)))
+        go (ok p) false i f = offered-late o h p now f
 
-  after-live : (o : Opening) (c : Command) → opening j ≡ some o → freeze j ≡ none → inRange c ≡ true
-      → after (live o (candidates o (postings j))) c ≡ ledger (j ▹ c)
-  unfolding step ledger takenPrints opening freeze postings
-  after-live o (Open q) e f _ = rw (e, f)
-  after-live o (Offer q now) e f h = rw (e, f) (after-offer o q now e h)
-  after-live o (Ask now) e f _ = rw (e, f)
-  after-live o (Fix now) e f _ = rw (e, f) (go (final (decided o (candidates o (postings j)) now)))
-    where
-      c : Candidates
-      c = candidates o (postings j)
+    after-withdraw : (now : ℤ) (i : ℕ) → maybe (live o h) (λ s. s) (changed (withdrawing o h now i)) ≡ live o (holdings o (events j ▹ withdrawal now i))
+    after-withdraw now i = go (ltb i (slots (o .terms))) (isSome (holder o (events j) i)) refl refl
+      where
+        es : Log Event
+        es = events j
 
-      go : (b : Bool) → maybe (live o c) (λ s. s) (changed (if b then leaves (decided o c now) (fixed o c (decided o c now) now) else keeps (waiting (decided o c now))))
-          ≡ (let z : Option Freeze = if b then some (record { ahead = j; now = now }) else none in
-          since o (candidates o (maybe (postings j) (λ z. postings (z .ahead)) z)) z)
-      go true = refl
-      go false = refl
+        go : (a b : Bool) → ltb i (slots (o .terms)) ≡ a → isSome (holder o es i) ≡ b
+            → maybe (live o h) (λ s. s) (changed (withdrawing o h now i)) ≡ live o (holdings o (es ▹ withdrawal now i))
+        go false b x y = rw (le-leb (slots (o .terms)) i (ltb-false i (slots (o .terms)) x)) (ap (live o) (sym (holdings-kept o es now i (rw x))))
+        go true false x y =
+            rw (lt-leb (slots (o .terms)) i (ltb-true i (slots (o .terms)) x), candidates-bit o es i (ltb-true i (slots (o .terms)) x), y)
+            (ap (live o) (sym (holdings-kept o es now i (rw (x, y)))))
+        go true true x y =
+            rw (lt-leb (slots (o .terms)) i (ltb-true i (slots (o .terms)) x), candidates-bit o es i (ltb-true i (slots (o .terms)) x), y)
+            (ap (live o) (sym (holdings-freed o es now i (opening-good j o e) (rw (x, y)))))
 
-  after-fixed : (o : Opening) (z : Freeze) (c : Command) → opening j ≡ some o → freeze j ≡ some z
-      → after (since o (candidates o (postings (z .ahead))) (some z)) c ≡ ledger (j ▹ c)
-  unfolding step ledger takenPrints opening freeze
-  after-fixed o z (Open q) e f = rw (e, f)
-  after-fixed o z (Offer q now) e f = rw (e, f)
-  after-fixed o z (Ask now) e f = rw (e, f)
-  after-fixed o z (Fix now) e f = rw (e, f)
+    after-live : (c : Command) → freeze j ≡ none → inRange c ≡ true → after (live o h) c ≡ ledger (j ▹ c)
+    unfolding step ledger takenEvents opening freeze events
+    after-live (Open q) f _ = rw (e, f)
+    after-live (Offer q now) f r = rw (e, f) (after-offer q now r)
+    after-live (Ask now) f _ = rw (e, f)
+    after-live (Fix now) f _ = rw (e, f) (go (final (decided o (h .candidates) now)))
+      where
+        go : (b : Bool) → maybe (live o h) (λ s. s) (changed (if b then leaves (decided o (h .candidates) now) (fixed o h (decided o (h .candidates) now) now) else keeps (waiting (decided o (h .candidates) now))))
+            ≡ (let z : Option Freeze = if b then some (record { ahead = j; now = now }) else none in
+            since o (holdings o (maybe (events j) (λ z. events (z .ahead)) z)) z)
+        go true = refl
+        go false = refl
+    after-live (Withdraw now i) f _ = rw (e, f) (after-withdraw now i)
+
+    after-fixed : (z : Freeze) (c : Command) → freeze j ≡ some z
+        → after (since o (holdings o (events (z .ahead))) (some z)) c ≡ ledger (j ▹ c)
+    unfolding step ledger takenEvents opening freeze
+    after-fixed z (Open q) f = rw (e, f)
+    after-fixed z (Offer q now) f = rw (e, f)
+    after-fixed z (Ask now) f = rw (e, f)
+    after-fixed z (Fix now) f = rw (e, f)
+    after-fixed z (Withdraw now i) f = rw (e, f)
 
   pub after-ledger : (c : Command) → inRange c ≡ true → after (ledger j) c ≡ ledger (j ▹ c)
-  unfolding ledger takenPrints
-  after-ledger c h = go (opening j) (freeze j) refl refl
+  unfolding ledger takenEvents
+  after-ledger c r = go (opening j) (freeze j) refl refl
     where
       go : (o : Option Opening) (z : Option Freeze) → opening j ≡ o → freeze j ≡ z
-          → after (maybe empty (λ q. since q (candidates q (maybe (postings j) (λ y. postings (y .ahead)) z)) z) o) c ≡ ledger (j ▹ c)
+          → after (maybe empty (λ q. since q (holdings q (maybe (events j) (λ y. events (y .ahead)) z)) z) o) c ≡ ledger (j ▹ c)
       go none z e f = after-empty c e
-      go (some o) none e f = after-live o c e f h
-      go (some o) (some z) e f = after-fixed o z c e f
+      go (some o) none e f = after-live o e c f r
+      go (some o) (some z) e f = after-fixed o e z c f

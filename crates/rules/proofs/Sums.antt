@@ -9,7 +9,8 @@ use lib.Pow.{pow-pos, pow-add, pow-mono}
 use lib.Arith.{lt-of-le-ne}
 use borrow.Author.Tests.{eqb-true, eqb-false}
 use lib.Dec.{eqb}
-use Rattle.rules.specs.Log.{if_then_else_, find, Σ<, _orElse_}
+use Rattle.rules.specs.Log.{if_then_else_, find, Σ<, all<, _orElse_}
+use Rattle.rules.proofs.Bools.{both}
 
 -- ---- sums
 
@@ -49,6 +50,29 @@ pub Σ<-stop : (n m : ℕ) (f : ℕ → ℕ) → n ≤ m → ((i : ℕ) → n �
     go false e r =
         let l′ : n < suc m = lt-of-le-ne l (eqb-false n (suc m) e) in
         omega (arith, r (omega arith), h m (omega arith))
+
+-- ---- every i < n
+
+pub all<-yes : (n : ℕ) (P : ℕ → Bool) → ((i : ℕ) → i < n → P i ≡ true) → all< n P ≡ true
+all<-yes zero P h = refl
+all<-yes (suc n) P h = rw (all<-yes n P (λ i l. h i (omega arith)), h n (omega arith))
+
+pub all<-at : (n : ℕ) (P : ℕ → Bool) → all< n P ≡ true → (i : ℕ) → i < n → P i ≡ true
+all<-at zero P e i l = absurd (omega arith)
+all<-at (suc n) P e i l = let (a, b) = both (all< n P) (P n) e in go (eqb i n) refl b (all<-at n P a i)
+  where
+    go : (t : Bool) → eqb i n ≡ t → P n ≡ true → (i < n → P i ≡ true) → P i ≡ true
+    go true q b r = ap P (eqb-true i n q) ∙ b
+    go false q b r = r (lt-of-le-ne (omega arith) (eqb-false i n q))
+
+-- one of them is no more than all
+pub Σ<-part : (n : ℕ) (f : ℕ → ℕ) (i : ℕ) → i < n → f i ≤ Σ< n f
+Σ<-part zero f i l = absurd (omega arith)
+Σ<-part (suc n) f i l = go (eqb i n) refl (Σ<-part n f i)
+  where
+    go : (t : Bool) → eqb i n ≡ t → (i < n → f i ≤ Σ< n f) → f i ≤ Σ< n f + f n
+    go true q r = omega (arith, ap f (eqb-true i n q))
+    go false q r = omega (arith, r (lt-of-le-ne (omega arith) (eqb-false i n q)))
 
 -- ---- the first i < n
 

@@ -34,10 +34,10 @@ method n =
     if eqb n 5 then ok Method.Void else
     refused 1
 
--- "Opened; Used (slot or none, link or none, fallback yes or no); Wait (until); Settle (method, price, samples); Void; or a refusal."
+-- "Opened; Used (slot or none, link or none, fallback yes or no); Wait (until); Settle (method, price, samples); Void; or a refusal." #103: Done, which a withdraw answers.
 --
 -- The refusals. From the input:
---   35 book not 12,800 bytes             12 terms (or an exponent given to the mean) out of range
+--   35 book not 29,184 bytes             12 terms (or an exponent given to the mean) out of range
 --   32 unknown command byte              13, 16, 17 print, exponent, confidence
 --   33 command empty, or not of its width 1 method number above 5
 --   34 series above 63
@@ -45,13 +45,15 @@ method n =
 --   11 the command's own record not acceptable   0 a time or price that does not fit
 --   36 open on a used series                    14 print usable for nothing
 --   37 series empty                             39 fix while the decision is Wait
---   38 offer or fix on a fixed series
+--   38 offer, fix or withdraw on a fixed series
+--   40 withdraw of a slot that the series does not have     41 withdraw of an empty slot (#103)
 pub data Answer : Type 0 where
   Opened : Answer
   Used : Option ℕ → Option ℕ → Bool → Answer
   Wait : ℤ → Answer
   Settle : Method → ℕ → ℕ → Answer
   Void : Answer
+  Done : Answer
   Refused : ℕ → Answer
 
 -- Settle or Void
@@ -61,6 +63,7 @@ final (Answer.Used s l f) = false
 final (Answer.Wait t) = false
 final (Answer.Settle m p n) = true
 final Answer.Void = true
+final Answer.Done = false
 final (Answer.Refused r) = false
 
 abbrev pub isUsed : Answer → Bool
@@ -69,6 +72,7 @@ isUsed (Answer.Used s l f) = true
 isUsed (Answer.Wait t) = false
 isUsed (Answer.Settle m p n) = false
 isUsed Answer.Void = false
+isUsed Answer.Done = false
 isUsed (Answer.Refused r) = false
 
 -- Settle, Void or refusal 0: what an open series answers an ask for good, after its Waits
@@ -78,4 +82,5 @@ settled (Answer.Used s l f) = false
 settled (Answer.Wait t) = false
 settled (Answer.Settle m p n) = true
 settled Answer.Void = true
+settled Answer.Done = false
 settled (Answer.Refused r) = eqb r 0

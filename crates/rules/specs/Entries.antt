@@ -7,7 +7,7 @@ use lib.Dec.{ltb, eqb}
 use Rattle.rules.specs.Log.{if_then_else_}
 use Rattle.rules.specs.Bytes.{Bytes, unsignedAt, signedAt}
 use Rattle.rules.specs.Prints.{Quote}
-use Rattle.rules.specs.Series.{Opening, Command, Open, Offer, Ask, Fix}
+use Rattle.rules.specs.Series.{Opening, Command, Open, Offer, Ask, Fix, Withdraw}
 use Rattle.rules.specs.Record.{seriesCount}
 
 pub data Entry : Type 0 where
@@ -49,13 +49,18 @@ quoteAt bs =
 abbrev pub nowAt : Bytes → ℤ
 nowAt bs = signedAt bs 2 8
 
--- "38 bytes", "46 bytes", "10 bytes": the width of a command, by its byte; 1 for an unknown one
+-- #103: a withdraw, 0x06, has the slot's number in a byte after its now
+abbrev pub slotAt : Bytes → ℕ
+slotAt bs = unsignedAt bs 10 1
+
+-- "38 bytes", "46 bytes", "10 bytes", and #103's 11: the width of a command, by its byte; 1 for an unknown one
 abbrev pub width : ℕ → ℕ
 width b =
     if eqb b 0x01 then 38 else
     if eqb b 0x02 then 46 else
     if eqb b 0x03 then 10 else
     if eqb b 0x04 then 10 else
+    if eqb b 0x06 then 11 else
     1
 
 -- "33 command not of its width", "34 series above 63"
@@ -73,4 +78,5 @@ entry (b ∷ bs) =
     if eqb b 0x02 then ofWidth (width 0x02) e (Offer (quoteAt e) (nowAt e)) else
     if eqb b 0x03 then ofWidth (width 0x03) e (Ask (nowAt e)) else
     if eqb b 0x04 then ofWidth (width 0x04) e (Fix (nowAt e)) else
+    if eqb b 0x06 then ofWidth (width 0x06) e (Withdraw (nowAt e) (slotAt e)) else
     noCommand 32

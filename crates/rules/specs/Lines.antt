@@ -1,5 +1,5 @@
 -- The line of text of an answer. 01: "Fields: word, series, then slot, link ("-" for none) and 0/1; or until; or method, price, samples.
--- A refusal prints `refused` and its number, no series." "Void prints `void 3`."
+-- A refusal prints `refused` and its number, no series." "Void prints `void 3`." #103: Done is the word alone.
 use Prim.Native.Nat.{ℕ, zero, suc, _+_, _/_, _%_}
 use Prim.Native.Char.{code}
 use Prim.Native.String.{String, [] as noText, _∷_ as _then_}
@@ -57,4 +57,5 @@ line s (Used slot link fallback) = ascii "used" ++ afterWord (decimal s ∷ inde
 line s (Wait until) = ascii "wait" ++ afterWord (decimal s ∷ signedDecimal until ∷ [])
 line s (Settle m price samples) = ascii "settle" ++ afterWord (decimal s ∷ decimal (number m) ∷ decimal price ∷ decimal samples ∷ [])
 line s Answer.Void = ascii "void" ++ afterWord (decimal s ∷ [])
+line s Answer.Done = ascii "done" ++ afterWord []
 line s (Refused r) = ascii "refused" ++ afterWord (decimal r ∷ [])

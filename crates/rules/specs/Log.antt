@@ -110,10 +110,20 @@ abbrev pub Σ< : ℕ → (ℕ → ℕ) → ℕ
 Σ< zero f = 0
 Σ< (suc n) f = Σ< n f + f n
 
+-- every i < n passes the test
+abbrev pub all< : ℕ → (ℕ → Bool) → Bool
+all< zero P = true
+all< (suc n) P = all< n P && P n
+
 -- the first i < n that passes the test
 abbrev pub find : ℕ → (ℕ → Bool) → Option ℕ
 find zero P = none
 find (suc n) P = find n P orElse (if P n then some n else none)
+
+-- f at each of the n numbers from i on
+abbrev pub listFrom : {A : Type 0} → ℕ → ℕ → (ℕ → A) → List A
+listFrom i zero f = []
+listFrom i (suc n) f = f i ∷ listFrom (suc i) n f
 
 -- what f has at each i < n, in order
 abbrev pub upTo : {A : Type 0} → ℕ → (ℕ → Option A) → Log A

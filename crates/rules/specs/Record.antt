@@ -1,25 +1,30 @@
--- 01, "Record (200 bytes; book = 64 of them)".
+-- 01, "Record", and #103: a record has 456 bytes, the last 256 of them for the prices of 32 slots; a book has 64 records.
 use Prim.Native.Nat.{ℕ, _+_, _*_, _/_, _%_, _^_}
-use mathlib.Core.Bool.{Bool, true, false, _&&_}
+use mathlib.Core.Bool.{Bool, true, false, _&&_, Bool·beq}
 use mathlib.Core.List.{List, [], _∷_, _++_}
+use lib.ListN.{length, getD}
 use lib.IntN.{ℤ, pos}
 use lib.Dec.{ltb, leb, eqb}
-use Rattle.rules.specs.Log.{if_then_else_, size, all, every}
+use Rattle.rules.specs.Log.{if_then_else_, size, all, every, Σ<, all<, listFrom}
 use Rattle.rules.specs.Bytes.{Bytes, zeros, allZero, concat, unsignedAt, signedAt, bytes, signedBytes, fitsUnsigned, fitsSigned, fits}
-use Rattle.rules.specs.Answers.{Result, ok, refused, Method, number, method, Answer, Opened, Used, Wait, Settle, Refused, final}
+use Rattle.rules.specs.Answers.{Result, ok, refused, Method, number, method, Answer, Opened, Used, Wait, Settle, Done, Refused, final}
 use Rattle.rules.specs.Terms.{goodTerms}
-use Rattle.rules.specs.Taking.{Candidates}
+use Rattle.rules.specs.Taking.{Candidates, bit}
 use Rattle.rules.specs.State.{Parts, candidatesOf, partsOf, goodState}
-use Rattle.rules.specs.Series.{Opening, Series, empty, live, fixed, decided}
+use Rattle.rules.specs.Series.{Opening, Holdings, slotPlaces, Series, empty, live, fixed, decided}
 
 abbrev pub recordSize : ℕ
-recordSize = 200
+recordSize = 456
+
+-- where the slot prices begin
+abbrev pub slotPricesAt : ℕ
+slotPricesAt = 200
 
 abbrev pub seriesCount : ℕ
 seriesCount = 64
 
 abbrev pub bookSize : ℕ
-bookSize = 12_800
+bookSize = 29_184
 
 -- ---- writing
 
@@ -30,6 +35,7 @@ methodOf Answer.Void = number Method.Void
 methodOf Opened = 0
 methodOf (Used s l f) = 0
 methodOf (Wait t) = 0
+methodOf Done = 0
 methodOf (Refused r) = 0
 
 abbrev pub samplesOf : Answer → ℕ
@@ -38,6 +44,7 @@ samplesOf Answer.Void = 0
 samplesOf Opened = 0
 samplesOf (Used s l f) = 0
 samplesOf (Wait t) = 0
+samplesOf Done = 0
 samplesOf (Refused r) = 0
 
 abbrev pub priceOf : Answer → ℕ
@@ -46,6 +53,7 @@ priceOf Answer.Void = 0
 priceOf Opened = 0
 priceOf (Used s l f) = 0
 priceOf (Wait t) = 0
+priceOf Done = 0
 priceOf (Refused r) = 0
 
 abbrev pub eight : List ℕ → List Bytes
@@ -56,7 +64,7 @@ abbrev pub eightSigned : List ℤ → List Bytes
 eightSigned [] = []
 eightSigned (z ∷ zs) = signedBytes 8 z ∷ eightSigned zs
 
--- the fields in the order of their offsets
+-- the fields ahead of the slot prices, in the order of their offsets
 unfoldable pub fields : ℕ → Opening → Parts → ℕ → ℕ → ℤ → ℕ → List Bytes
 fields tag o s samples number fixingTime price =
     let t = o .terms in
@@ -70,17 +78,21 @@ fields tag o s samples number fixingTime price =
     ∷ signedBytes 8 (s .windowChanged) ∷ signedBytes 8 (s .linkChanged) ∷ signedBytes 8 (s .fallbackChanged)
     ∷ signedBytes 8 fixingTime ∷ bytes 8 price ∷ [])))
 
--- under tag 1 with no outcome; under tag 2 with the answer and its time
-abbrev pub openRecord : Opening → Parts → Bytes
-openRecord o s = concat (fields 1 o s 0 0 (pos 0) 0)
+-- #103: the slot prices, eight bytes each: 32 of them, however many the list has
+unfoldable pub priceBytes : List ℕ → Bytes
+priceBytes prices = concat (eight (listFrom 0 slotPlaces (λ i. getD prices i 0)))
 
-abbrev pub fixedRecord : Opening → Parts → Answer → ℤ → Bytes
-fixedRecord o s a at = concat (fields 2 o s (samplesOf a) (methodOf a) at (priceOf a))
+-- under tag 1 with no outcome; under tag 2 with the answer and its time
+abbrev pub openRecord : Opening → Parts → List ℕ → Bytes
+openRecord o s prices = concat (fields 1 o s 0 0 (pos 0) 0) ++ priceBytes prices
+
+abbrev pub fixedRecord : Opening → Parts → List ℕ → Answer → ℤ → Bytes
+fixedRecord o s prices a at = concat (fields 2 o s (samplesOf a) (methodOf a) at (priceOf a)) ++ priceBytes prices
 
 unfoldable pub bytesOf : Series → Bytes
 bytesOf empty = zeros recordSize
-bytesOf (live o c) = openRecord o (partsOf c)
-bytesOf (fixed o c a at) = fixedRecord o (partsOf c) a at
+bytesOf (live o h) = openRecord o (partsOf (h .candidates)) (h .slotPrices)
+bytesOf (fixed o h a at) = fixedRecord o (partsOf (h .candidates)) (h .slotPrices) a at
 
 -- ---- reading, at 01's offsets
 
@@ -91,6 +103,15 @@ fiveFrom f i = f i ∷ f (i + 8) ∷ f (i + 16) ∷ f (i + 24) ∷ f (i + 32) �
 abbrev pub outcome : Result Method → ℕ → ℕ → Answer
 outcome (ok m) price samples = if eqb (number m) (number Method.Void) then Answer.Void else Settle m price samples
 outcome (refused r) price samples = Refused r
+
+-- #103: slot i has a price above zero where it is filled, and zero where it is empty
+abbrev pub slotPriced : Holdings → ℕ → Bool
+slotPriced h i = Bool·beq (bit i (h .candidates .bits)) (ltb 0 (getD (h .slotPrices) i 0))
+
+-- #103: each slot's price is right by this, and the sum is their total
+unfoldable pub goodPrices : Holdings → Bool
+goodPrices h =
+    eqb (h .candidates .sum) (Σ< slotPlaces (λ i. getD (h .slotPrices) i 0)) && all< slotPlaces (slotPriced h)
 
 module _ (bs : Bytes) where
   unfoldable pub openingIn : Opening
@@ -127,6 +148,12 @@ module _ (bs : Bytes) where
         fallbackChanged = signedAt bs 176 8;
       }
 
+  unfoldable pub pricesIn : List ℕ
+  pricesIn = listFrom 0 slotPlaces (λ i. unsignedAt bs (slotPricesAt + 8 * i) 8)
+
+  abbrev pub holdingsIn : Holdings
+  holdingsIn = record { candidates = candidatesOf partsIn; slotPrices = pricesIn }
+
   abbrev pub tagIn : ℕ
   tagIn = unsignedAt bs 0 1
 
@@ -146,14 +173,14 @@ module _ (bs : Bytes) where
   unfoldable pub seriesIn : Series
   seriesIn =
       if eqb tagIn 0 then empty else
-      if eqb tagIn 1 then live openingIn (candidatesOf partsIn) else
-      fixed openingIn (candidatesOf partsIn) (outcome (method methodIn) priceIn samplesIn) fixingTimeIn
+      if eqb tagIn 1 then live openingIn holdingsIn else
+      fixed openingIn holdingsIn (outcome (method methodIn) priceIn samplesIn) fixingTimeIn
 
   -- ---- the acceptable records
 
-  -- "Otherwise terms accepted and state accepted by `restore`"; "37–39 zero"
+  -- "Otherwise terms accepted and state accepted by `restore`"; "37–39 zero"; #103's test of the slot prices
   abbrev pub bodyTests : List Bool
-  bodyTests = goodTerms (openingIn .terms) ∷ goodState (openingIn .terms) partsIn ∷ eqb (unsignedAt bs 37 3) 0 ∷ []
+  bodyTests = goodTerms (openingIn .terms) ∷ goodState (openingIn .terms) partsIn ∷ eqb (unsignedAt bs 37 3) 0 ∷ goodPrices holdingsIn ∷ []
 
   -- "Tag 1: samples, method, fixing time and price zero."
   abbrev pub openTests : List Bool
@@ -205,6 +232,9 @@ openingFits o = every (openingFields o)
 unfoldable pub candidatesFit : Candidates → Bool
 candidatesFit c = every (candidatesFields c)
 
+unfoldable pub pricesFit : List ℕ → Bool
+pricesFit prices = eqb (length prices) slotPlaces && all< slotPlaces (λ i. fitsUnsigned 8 (getD prices i 0))
+
 -- Settle by one of the first five methods, or Void
 abbrev pub outcomeFits : Answer → Bool
 outcomeFits (Settle m p n) = ltb (number m) (number Method.Void) && (fitsUnsigned 8 p && fitsUnsigned 2 n)
@@ -212,9 +242,10 @@ outcomeFits Answer.Void = true
 outcomeFits Opened = false
 outcomeFits (Used s l f) = false
 outcomeFits (Wait t) = false
+outcomeFits Done = false
 outcomeFits (Refused r) = false
 
 abbrev pub seriesFits : Series → Bool
 seriesFits empty = true
-seriesFits (live o c) = every (openingFits o ∷ candidatesFit c ∷ [])
-seriesFits (fixed o c a at) = every (openingFits o ∷ candidatesFit c ∷ outcomeFits a ∷ fits at ∷ [])
+seriesFits (live o h) = every (openingFits o ∷ candidatesFit (h .candidates) ∷ pricesFit (h .slotPrices) ∷ [])
+seriesFits (fixed o h a at) = every (openingFits o ∷ candidatesFit (h .candidates) ∷ pricesFit (h .slotPrices) ∷ outcomeFits a ∷ fits at ∷ [])

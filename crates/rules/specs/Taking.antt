@@ -1,8 +1,9 @@
 -- 01, "Taking a print (`SettlementState::add_print`)". E is the expiry, now the caller's time.
-use Prim.Native.Nat.{ℕ, _+_, _*_, _/_, _%_, _^_}
+use Prim.Native.Nat.{ℕ, _+_, _*_, _-_, _/_, _%_, _^_}
 use mathlib.Core.Bool.{Bool, not, _&&_, _||_}
 use mathlib.Core.Option.{Option, none, some}
 use mathlib.Core.List.{List, [], _∷_}
+use lib.ListN.{set}
 use lib.IntN.{ℤ, pos, _+ℤ_, _-ℤ_}
 use lib.Signed.{ltZ, leZ}
 use lib.Dec.{ltb, eqb}
@@ -26,6 +27,21 @@ pub record Candidates : Type 0 where
 
 unfoldable pub bit : ℕ → ℕ → Bool
 bit i bits = eqb (bits / 2 ^ i % 2) 1
+
+-- #103: the candidates without the print of slot i, which has this price: its bit and its share of the sum go, window changed is now, links and fallback stay
+unfoldable pub vacate : Candidates → ℕ → ℕ → ℤ → Candidates
+vacate c i price now =
+    record {
+      bits = c .bits - 2 ^ i;
+      sum = c .sum - price;
+      times = c .times;
+      prices = c .prices;
+      fallbackTime = c .fallbackTime;
+      fallbackPrice = c .fallbackPrice;
+      windowChanged = now;
+      linkChanged = c .linkChanged;
+      fallbackChanged = c .fallbackChanged;
+    }
 
 module _ (t : Terms) (E : ℤ) where
   -- "Slot i has boundary b = E − window + i × slot."
@@ -105,3 +121,8 @@ module _ (t : Terms) (E : ℤ) where
   abbrev pub offerPlaced : Candidates → Result Print → ℤ → Candidates
   offerPlaced c (ok p) now = place c p now
   offerPlaced c (refused r) now = c
+
+  -- #103: the slot prices after it: the slot that it fills has the print's price
+  abbrev pub offerPriced : Candidates → List ℕ → Result Print → List ℕ
+  offerPriced c prices (ok p) = maybe prices (λ i. set prices i (p .price)) (slotFor c p)
+  offerPriced c prices (refused r) = prices

@@ -120,4 +120,5 @@ fn main() {
     example(b"void", b"void.journal", b"void.sheet");
     example(b"hostile_day", b"hostile_day.journal", b"hostile_day.sheet");
     example(b"before_1970", b"before_1970.journal", b"before_1970.sheet");
+    example(b"withdraw", b"withdraw.journal", b"withdraw.sheet");
 }

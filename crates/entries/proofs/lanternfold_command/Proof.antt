@@ -49,6 +49,9 @@ cast-third c = search needs
 enum-told-2 : tie.Need-enum-told-2
 enum-told-2 c = search needs
 
+enum-told-3 : tie.Need-enum-told-3
+enum-told-3 c = search needs
+
 enum-known-n : tie.Need-enum-known-n
 enum-known-n c = search needs
 
@@ -108,6 +111,16 @@ same-length-6 c = search needs
 
 returns-6 : tie.Need-returns-6
 returns-6 c =
+    let t = c in
+    let w = t .before .before .before .before in
+    let q = sym (w .apply .ensures .0) ∙ ap answerOf (t .enum-told3 .given .1) in
+    rw q (refl, w .apply .ensures .1, refl, refl, refl)
+
+same-length-7 : tie.Need-same-length-7
+same-length-7 c = search needs
+
+returns-7 : tie.Need-returns-7
+returns-7 c =
     let t = c .before in
     let w = t .before .before .before .before in
     let q = sym (w .apply .ensures .0) ∙ ap answerOf (t .n .given .1) in
@@ -131,6 +144,7 @@ lanternfold-command-spec =
     get-requires
     cast-third
     enum-told-2
+    enum-told-3
     enum-known-n
     same-length
     returns
@@ -143,4 +157,6 @@ lanternfold-command-spec =
     same-length-5
     returns-5
     same-length-6
-    returns-6)
+    returns-6
+    same-length-7
+    returns-7)

@@ -9,8 +9,8 @@ use Rattle.book_trials.proofs.journal.replay.Statement.{statement}
 use Rattle.book_trials.proofs.journal.replay.Tie as tie
 
 -- by the lemma: `search` would count the array's bytes, one by one
-front : (n : ℕ) → n ≤ 25600 → n ≡ length (take n (replicate {A = ℕ} 25600 0))
-front n h = sym (length-take-le n (replicate {A = ℕ} 25600 0) (omega (arith, h, length-replicate {A = ℕ} 25600 0)))
+front : (n : ℕ) → n ≤ 58368 → n ≡ length (take n (replicate {A = ℕ} 58368 0))
+front n h = sym (length-take-le n (replicate {A = ℕ} 58368 0) (omega (arith, h, length-replicate {A = ℕ} 58368 0)))
 
 next-requires : tie.Need-next-requires
 next-requires c κs = search needs

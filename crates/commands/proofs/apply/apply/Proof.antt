@@ -4,7 +4,7 @@ use lib.ListN.{length}
 use mir.Syntax.{w64}
 use mir.Val.{SFits}
 use mir.Facts.{toZ-ofZ}
-use Rattle.rules.specs.Series.{Open, Offer, Ask, Fix}
+use Rattle.rules.specs.Series.{Open, Offer, Ask, Fix, Withdraw}
 use Rattle.rules.specs.Record.{bookSize}
 use Rattle.core_prices.specs.Prints.{quoteOf}
 use Rattle.record_read.specs.Records.{openingWith}
@@ -46,6 +46,12 @@ enum-known-series-4 c = search needs
 
 fix-requires : tie.Need-fix-requires
 fix-requires c κs = search needs
+
+enum-known-series-5 : tie.Need-enum-known-series-5
+enum-known-series-5 c = search needs
+
+withdraw-requires : tie.Need-withdraw-requires
+withdraw-requires c κs = search needs
 
 -- the book has its length
 whole : (c : tie.After-read-entry) → length (c .before .before .before .before .args .book .now) ≡ bookSize
@@ -114,6 +120,21 @@ returns-6 c =
     let y = simp toZ-ofZ at (w .fix .ensures) in
     (y .0 ∙ x .0, y .1 ∙ x .1)
 
+same-length-5 : tie.Need-same-length-5
+same-length-5 c = search needs
+
+returns-7 : tie.Need-returns-7
+returns-7 c =
+    let w = c .before .before in
+    let t = w .before .before .before in
+    let k = t .before .before in
+    let a = k .before .before .before .before .args in
+    let g = t .series5 .given in
+    let f : SFits w64 (g .0 .1 .0) = search needs in
+    let x = by-command (a .book .now) (a .entry .now) (whole k) (g .0 .0) (Withdraw (g .0 .1 .0) (g .0 .1 .1 .0)) (ap entryOf (sym (g .1)) ∙ k .read-entry .ensures) in
+    let y = simp toZ-ofZ at (w .withdraw .ensures) in
+    (y .0 ∙ x .0, y .1 ∙ x .1)
+
 pub apply-spec : {M : Type 1} → statement M
 apply-spec =
     tie.close
@@ -129,6 +150,8 @@ apply-spec =
     ask-requires
     enum-known-series-4
     fix-requires
+    enum-known-series-5
+    withdraw-requires
     returns-2
     same-length
     returns-3
@@ -137,4 +160,6 @@ apply-spec =
     same-length-3
     returns-5
     same-length-4
-    returns-6)
+    returns-6
+    same-length-5
+    returns-7)

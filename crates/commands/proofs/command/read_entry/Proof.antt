@@ -25,6 +25,9 @@ ask-entry-requires c κs = search needs
 fix-entry-requires : tie.Need-fix-entry-requires
 fix-entry-requires c κs = search needs
 
+withdraw-entry-requires : tie.Need-withdraw-entry-requires
+withdraw-entry-requires c κs = search needs
+
 returns-2 : tie.Need-returns-2
 returns-2 c = c .open-entry .ensures ∙ entry-from (c .before .before .before .before .before .args .bytes .now) (omega arith) (c .before .match .keys1)
 
@@ -38,15 +41,19 @@ returns-5 : tie.Need-returns-5
 returns-5 c = c .fix-entry .ensures ∙ entry-from (c .before .before .before .before .before .args .bytes .now) (omega arith) (c .before .match .keys4)
 
 returns-6 : tie.Need-returns-6
-returns-6 c =
+returns-6 c = c .withdraw-entry .ensures ∙ entry-from (c .before .before .before .before .before .args .bytes .now) (omega arith) (c .before .match .keys5)
+
+returns-7 : tie.Need-returns-7
+returns-7 c =
     let l = c .before .before .before .before .args .bytes .now in
     let others = c .match .rest in
     let e = entry-from l (omega arith) refl in
     simp (
-      ne-eqb (getD l 0 0) 1 (others .0 .0 .0 .1),
-      ne-eqb (getD l 0 0) 2 (others .0 .0 .1),
-      ne-eqb (getD l 0 0) 3 (others .0 .1),
-      ne-eqb (getD l 0 0) 4 (others .1),
+      ne-eqb (getD l 0 0) 1 (others .0 .0 .0 .0 .1),
+      ne-eqb (getD l 0 0) 2 (others .0 .0 .0 .1),
+      ne-eqb (getD l 0 0) 3 (others .0 .0 .1),
+      ne-eqb (getD l 0 0) 4 (others .0 .1),
+      ne-eqb (getD l 0 0) 6 (others .1),
     ) at e
 
 pub read-entry-spec : {M : Type 1} → statement M
@@ -59,8 +66,10 @@ read-entry-spec =
     offer-entry-requires
     ask-entry-requires
     fix-entry-requires
+    withdraw-entry-requires
     returns-2
     returns-3
     returns-4
     returns-5
-    returns-6)
+    returns-6
+    returns-7)

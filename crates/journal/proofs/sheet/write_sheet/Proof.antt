@@ -6,7 +6,7 @@ use lib.ListN.{length}
 use borrow.Author.Tests.{lt-leb, le-leb}
 use Rattle.rules.specs.Bytes.{zeros}
 use Rattle.rules.specs.Record.{bookSize}
-use Rattle.claims.proofs.Entries.{are-bytes}
+use Rattle.rules.proofs.Bytes.{are-bytes}
 use Rattle.lines.specs.Lines.{lineMax}
 use Rattle.journal.proofs.Fits.{fed-written}
 use Rattle.journal.proofs.Parts.{whole-sheet}

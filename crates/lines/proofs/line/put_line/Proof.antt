@@ -46,6 +46,15 @@ slice-aggregate-put-short-2 c = search needs
 put-short-requires-2 : tie.Need-put-short-requires-2
 put-short-requires-2 c κs = search needs
 
+enum-told-3 : tie.Need-enum-told-3
+enum-told-3 c = search needs
+
+slice-aggregate-put : tie.Need-slice-aggregate-put
+slice-aggregate-put c = search needs
+
+put-requires : tie.Need-put-requires
+put-requires c κs = search needs
+
 enum-known-answer-4 : tie.Need-enum-known-answer-4
 enum-known-answer-4 c = search needs
 
@@ -90,11 +99,18 @@ unfolding line
 returns-5 c = let p = c .before .before .put-short2 .ensures in rw (c .before .before .before .before .before .enum-told2 .given .1) (p .0, omega (arith, p .1))
 
 same-length-6 : tie.Need-same-length-6
-same-length-6 c = c .before .before .put-short3 .kept .0
+same-length-6 c = c .before .before .put .kept .0
 
 returns-6 : tie.Need-returns-6
 unfolding line
-returns-6 c = let p = c .before .before .put-short3 .ensures in rw (c .before .before .before .before .before .before .answer4 .given .1) (p .0, omega (arith, p .1))
+returns-6 c = let p = c .before .before .put .ensures in rw (c .before .before .before .before .before .enum-told3 .given .1) (p, omega (arith, p .0))
+
+same-length-7 : tie.Need-same-length-7
+same-length-7 c = c .before .before .put-short3 .kept .0
+
+returns-7 : tie.Need-returns-7
+unfolding line
+returns-7 c = let p = c .before .before .put-short3 .ensures in rw (c .before .before .before .before .before .before .answer4 .given .1) (p .0, omega (arith, p .1))
 
 pub put-line-spec : {M : Type 1} → statement M
 put-line-spec =
@@ -112,6 +128,9 @@ put-line-spec =
     enum-told-2
     slice-aggregate-put-short-2
     put-short-requires-2
+    enum-told-3
+    slice-aggregate-put
+    put-requires
     enum-known-answer-4
     slice-aggregate-put-short-3
     put-short-requires-3
@@ -126,4 +145,6 @@ put-line-spec =
     same-length-5
     returns-5
     same-length-6
-    returns-6)
+    returns-6
+    same-length-7
+    returns-7)

@@ -1,17 +1,22 @@
-use mathlib.Core.Path.{sym, ap, _∙_}
+use Prim.Native.Nat.{ℕ}
+use mathlib.Core.Path.{_≡_, sym, ap, _∙_}
 use native.Mathlib.Omega.{arith}
+use mir.Syntax.{w64}
+use mir.Val.{SFits}
 use mir.Facts.{toZ-ofZ}
+use Rattle.rules.specs.Bytes.{word}
 use Rattle.rules.specs.Answers.{Result, Refused}
-use Rattle.rules.specs.State.{Parts}
+use Rattle.rules.specs.State.{Parts, offerState}
 use Rattle.rules.specs.Series.{Offer, Series}
-use Rattle.rules.specs.Record.{openRecord}
-use Rattle.rules.specs.Book.{replaced, storedAnswer, written}
+use Rattle.rules.specs.Record.{pricesIn, openRecord}
+use Rattle.rules.specs.Book.{recordAt, replaced, storedAnswer, written}
 use Rattle.core_terms.specs.Errors.{numberOf}
 use Rattle.core_prices.specs.Prints.{quoteOf}
 use Rattle.core_parts.specs.States.{storedOf}
 use Rattle.core_uses.specs.Uses.{indexOf}
 use Rattle.core_take.specs.Uses.{usedOf}
 use Rattle.record_read.specs.Records.{openingOf}
+use Rattle.record_store.specs.Prices.{withPrice}
 use Rattle.book.proofs.Looks.{allowed-book}
 use Rattle.answers.proofs.Commands.{may-look, held-found}
 use Rattle.openings.proofs.Offers.{offer-refused, offer-used}
@@ -45,8 +50,11 @@ offer-requires c κs = search needs
 enum-known-result : tie.Need-enum-known-result
 enum-known-result c = search needs
 
+i64-to-bits-requires : tie.Need-i64-to-bits-requires
+i64-to-bits-requires c κs = search needs
+
 store-open-requires : tie.Need-store-open-requires
-store-open-requires c κs = let a = c .before .before .before .before .before .before .before .before .before .before .before .before .args in may-look (a .book .now) (a .series) (c .before .before .before .before .before .before .before .before .before .before .before .before .pre)
+store-open-requires c κs = may-look (c .before .before .before .before .before .before .before .before .before .before .before .before .before .before .args .book .now) (c .before .before .before .before .before .before .before .before .before .before .before .before .before .before .args .series) (c .before .before .before .before .before .before .before .before .before .before .before .before .before .before .pre)
 
 enum-known-result-2 : tie.Need-enum-known-result-2
 enum-known-result-2 c = search needs
@@ -57,21 +65,29 @@ refusal-requires c κs = search needs
 same-length : tie.Need-same-length
 same-length c = search needs
 
+price-bits : (c : tie.After-i64-to-bits) → c .i64-to-bits .result ≡ word 64 (quoteOf (c .before .before .before .before .before .before .before .before .before .before .before .before .before .args .quote) .price)
+unfolding quoteOf
+price-bits c =
+    let g : SFits w64 (c .before .before .before .before .before .before .before .before .before .before .before .before .before .args .quote .price) = search needs in
+    c .i64-to-bits .ensures ∙ ap (word 64) (toZ-ofZ g)
+
 returns : tie.Need-returns
 returns c =
-    let a = c .before .before .before .before .before .before .before .before .before .before .before .before .before .before .before .args in
+    let a = c .before .before .before .before .before .before .before .before .before .before .before .before .before .before .before .before .before .args in
     let book = a .book .now in
-    let c0 = c .before .before .before .before .before .before .before .before .before .before .before .read-contents .result in
+    let c0 = c .before .before .before .before .before .before .before .before .before .before .before .before .before .read-contents .result in
     let o = openingOf c0 in
     let q = quoteOf (a .quote) in
-    let f = c .before .before .before .before .before .before .before .before .before .before .before .before .before .before .before .fits .now in
-    let u = c .before .before .before .before .before .before .result .given .0 .0 in
-    let e = held-found book (a .series) (c .before .before .before .before .before .before .before .before .before .before .before .before .before .before .before .pre) (c .before .before .before .before .before .before .before .before .before .before .before .read-contents .ensures) in
-    let x = offer-used book (a .series) o (storedOf (c0 .state)) q (a .now) (indexOf (u .slot)) (indexOf (u .«next_print»)) (u .fallback)
-    (sym (c .before .before .before .before .before .before .before .before .offer .ensures .0) ∙ ap usedOf (c .before .before .before .before .before .before .result .given .1)) in (
+    let prices = pricesIn (recordAt (a .series) book) in
+    let f = c .before .before .before .before .before .before .before .before .before .before .before .before .before .before .before .before .before .fits .now in
+    let u = c .before .before .before .before .before .before .before .before .result .given .0 .0 in
+    let e = held-found book (a .series) (c .before .before .before .before .before .before .before .before .before .before .before .before .before .before .before .before .before .pre) (c .before .before .before .before .before .before .before .before .before .before .before .before .before .read-contents .ensures) in
+    let x = offer-used book (a .series) o (storedOf (c0 .state)) prices q (a .now) (indexOf (u .slot)) (indexOf (u .«next_print»)) (u .fallback)
+    (sym (c .before .before .before .before .before .before .before .before .before .before .offer .ensures .0) ∙ ap usedOf (c .before .before .before .before .before .before .before .before .result .given .1)) in (
       x .0 ∙ ap (λ (y : Result Series). storedAnswer y (Offer q (a .now))) e,
       c .before .before .store-open .ensures
-          ∙ ap (λ (p : Parts). replaced (a .series) (openRecord o p) book) (simp toZ-ofZ at (c .before .before .before .before .before .before .before .before .offer .ensures .1))
+          ∙ ap (λ (p : Parts). replaced (a .series) (openRecord o p (withPrice prices (indexOf (u .slot)) (c .before .before .before .before .i64-to-bits .result))) book) (simp toZ-ofZ at (c .before .before .before .before .before .before .before .before .before .before .offer .ensures .1))
+          ∙ ap (λ (v : ℕ). replaced (a .series) (openRecord o (offerState (o .terms) (o .bps) (o .expiry) (storedOf (c0 .state)) q (a .now)) (withPrice prices (indexOf (u .slot)) v)) book) (price-bits (c .before .before .before .before))
           ∙ x .1 ∙ ap (λ (y : Result Series). written (a .series) book y (Offer q (a .now))) e,
     )
 
@@ -85,7 +101,7 @@ returns-2 c =
     let c0 = c .before .before .before .before .before .before .before .read-contents .result in
     let q = quoteOf (a .quote) in
     let e = held-found book (a .series) (c .before .before .before .before .before .before .before .before .before .before .before .pre) (c .before .before .before .before .before .before .before .read-contents .ensures) in
-    let x = offer-refused book (a .series) (openingOf c0) (storedOf (c0 .state)) q (a .now) (numberOf (c .before .before .result2 .given .0 .0)) (sym (c .before .before .before .before .offer .ensures .0) ∙ ap usedOf (c .before .before .result2 .given .1)) in (
+    let x = offer-refused book (a .series) (openingOf c0) (storedOf (c0 .state)) (pricesIn (recordAt (a .series) book)) q (a .now) (numberOf (c .before .before .result2 .given .0 .0)) (sym (c .before .before .before .before .offer .ensures .0) ∙ ap usedOf (c .before .before .result2 .given .1)) in (
       ap Refused (c .refusal .ensures) ∙ x .0 ∙ ap (λ (y : Result Series). storedAnswer y (Offer q (a .now))) e,
       x .1 ∙ ap (λ (y : Result Series). written (a .series) book y (Offer q (a .now))) e,
     )
@@ -102,6 +118,7 @@ offer-open-spec =
     read-contents-requires
     offer-requires
     enum-known-result
+    i64-to-bits-requires
     store-open-requires
     enum-known-result-2
     refusal-requires

@@ -1,12 +1,14 @@
+use Prim.Native.Nat.{ℕ}
 use mathlib.Core.Path.{refl, sym, ap, _∙_}
-use Rattle.rules.specs.State.{Parts}
-use Rattle.rules.specs.Series.{Open, step}
-use Rattle.rules.specs.Record.{openRecord}
-use Rattle.rules.specs.Book.{replaced}
+use mathlib.Core.List.{List}
+use Rattle.rules.specs.State.{Parts, partsOf}
+use Rattle.rules.specs.Series.{Open, noCandidates, step}
+use Rattle.rules.specs.Record.{pricesIn, openRecord}
+use Rattle.rules.specs.Book.{recordAt, replaced}
 use Rattle.core_parts.proofs.Places.{passed, failed}
 use Rattle.record_read.specs.Records.{openingWith}
 use Rattle.answers.proofs.Commands.{answered, left, allowed}
-use Rattle.openings.proofs.Opens.{open-refused, open-done}
+use Rattle.openings.proofs.Opens.{none-priced, open-refused, open-done}
 use borrow.Author.Needs.{needs}
 use Rattle.openings.proofs.open.open.Statement.{statement}
 use Rattle.openings.proofs.open.open.Tie as tie
@@ -61,7 +63,8 @@ returns-2 c =
     let e = c .before .before .before .before .before .before .before .enum-told .given .1 in
     let x = open-done book (a .series) o (passed (c .before .before .before .before .before .before .in-range .ensures) (c .before .before .before .before .before .if1 .left)) in (
       x .0 ∙ answered book (a .series) (c .before .before .before .before .before .before .before .before .before .status-at .ensures) e (Open o),
-      c .before .before .store-open .ensures ∙ ap (λ (s : Parts). replaced (a .series) (openRecord o s) book) (c .before .before .before .empty .ensures) ∙ x .1 ∙ left book (a .series) (c .before .before .before .before .before .before .before .before .before .status-at .ensures) e (Open o),
+      c .before .before .store-open .ensures ∙ ap (λ (s : Parts). replaced (a .series) (openRecord o s (pricesIn (recordAt (a .series) book))) book) (c .before .before .before .empty .ensures)
+          ∙ ap (λ (prices : List ℕ). replaced (a .series) (openRecord o (partsOf noCandidates) prices) book) (none-priced book (a .series) (sym (c .before .before .before .before .before .before .before .before .before .status-at .ensures) ∙ e)) ∙ x .1 ∙ left book (a .series) (c .before .before .before .before .before .before .before .before .before .status-at .ensures) e (Open o),
     )
 
 same-length-3 : tie.Need-same-length-3

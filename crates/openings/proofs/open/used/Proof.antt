@@ -2,6 +2,8 @@ use mathlib.Core.Path.{sym, _∙_}
 use mathlib.Core.Bool.{false, true}
 use native.Mathlib.Omega.{arith}
 use Rattle.rules.specs.Series.{step}
+use Rattle.rules.specs.Record.{pricesIn}
+use Rattle.rules.specs.Book.{recordAt}
 use Rattle.core_parts.specs.States.{storedOf}
 use Rattle.core_parts.proofs.Places.{passed, failed}
 use Rattle.record_read.specs.Records.{openingOf}
@@ -40,7 +42,7 @@ unfolding step
 returns c =
     let a = c .before .before .before .before .before .before .before .args in
     let e = held-found (a .book .now) (a .series) (c .before .before .before .before .before .before .before .pre) (c .before .before .before .before .read-contents .ensures) in
-    on-used (a .book .now) (a .series) (openingOf (c .before .before .before .before .read-contents .result)) (storedOf (c .before .before .before .before .read-contents .result .state)) false e (simp (failed (c .before .in-range .ensures) (c .if1 .taken)))
+    on-used (a .book .now) (a .series) (openingOf (c .before .before .before .before .read-contents .result)) (storedOf (c .before .before .before .before .read-contents .result .state)) (pricesIn (recordAt (a .series) (a .book .now))) false e (simp (failed (c .before .in-range .ensures) (c .if1 .taken)))
 
 in-range-requires-2 : tie.Need-in-range-requires-2
 in-range-requires-2 c κs = search needs
@@ -50,14 +52,14 @@ unfolding step
 returns-2 c =
     let a = c .before .before .before .before .before .before .before .before .before .args in
     let e = held-found (a .book .now) (a .series) (c .before .before .before .before .before .before .before .before .before .pre) (c .before .before .before .before .before .before .read-contents .ensures) in
-    on-used (a .book .now) (a .series) (openingOf (c .before .before .before .before .before .before .read-contents .result)) (storedOf (c .before .before .before .before .before .before .read-contents .result .state)) true e (simp (passed (c .before .before .before .in-range .ensures) (c .before .before .if1 .left), sym (c .before .in-range2 .ensures) ∙ c .if2 .taken))
+    on-used (a .book .now) (a .series) (openingOf (c .before .before .before .before .before .before .read-contents .result)) (storedOf (c .before .before .before .before .before .before .read-contents .result .state)) (pricesIn (recordAt (a .series) (a .book .now))) true e (simp (passed (c .before .before .before .in-range .ensures) (c .before .before .if1 .left), sym (c .before .in-range2 .ensures) ∙ c .if2 .taken))
 
 returns-3 : tie.Need-returns-3
 unfolding step
 returns-3 c =
     let a = c .before .before .before .before .before .before .before .before .before .args in
     let e = held-found (a .book .now) (a .series) (c .before .before .before .before .before .before .before .before .before .pre) (c .before .before .before .before .before .before .read-contents .ensures) in
-    on-used (a .book .now) (a .series) (openingOf (c .before .before .before .before .before .before .read-contents .result)) (storedOf (c .before .before .before .before .before .before .read-contents .result .state)) false e (simp (passed (c .before .before .before .in-range .ensures) (c .before .before .if1 .left), sym (c .before .in-range2 .ensures) ∙ c .if2 .left))
+    on-used (a .book .now) (a .series) (openingOf (c .before .before .before .before .before .before .read-contents .result)) (storedOf (c .before .before .before .before .before .before .read-contents .result .state)) (pricesIn (recordAt (a .series) (a .book .now))) false e (simp (passed (c .before .before .before .in-range .ensures) (c .before .before .if1 .left), sym (c .before .in-range2 .ensures) ∙ c .if2 .left))
 
 pub used-spec : {M : Type 1} → statement M
 used-spec =

@@ -1,8 +1,13 @@
-use mathlib.Core.Path.{_≡_, ap, _∙_}
+use mathlib.Core.Path.{ap, _∙_}
 use native.Mathlib.Omega.{arith}
 use Rattle.rules.specs.Bytes.{Bytes}
+use Rattle.rules.specs.Record.{pricesIn, openRecord}
 use Rattle.rules.specs.Book.{replaced}
-use Rattle.book.proofs.Looks.{partAt, put-is, allowed-book, allowed-part}
+use Rattle.core_parts.specs.States.{storedOf}
+use Rattle.core_uses.specs.Uses.{indexOf}
+use Rattle.record_read.specs.Records.{openingWith}
+use Rattle.record_store.specs.Prices.{withPrice}
+use Rattle.book.proofs.Looks.{partAt, part-is, put-is, allowed-book, allowed-part}
 use Rattle.record_write.proofs.Stores.{over-whole}
 use borrow.Author.Needs.{needs}
 use Rattle.openings.proofs.store.store_open.Statement.{statement}
@@ -35,6 +40,7 @@ returns c =
     let book = a .book .now in
     put-is (a .series) (c .before .before .write-open .last .0) book
     ∙ ap (λ (x : Bytes). replaced (a .series) x book) (c .before .before .write-open .ensures ∙ over-whole (partAt (a .series) book) _ (allowed-part book (a .series) (c .before .before .before .before .before .pre)))
+    ∙ ap (λ (x : Bytes). replaced (a .series) (openRecord (openingWith (a .params) (a .max-conf-bps) (a .expiry .0)) (storedOf (a .state)) (withPrice (pricesIn x) (indexOf (a .slot)) (a .price))) book) (part-is (a .series) book)
 
 pub store-open-spec : {M : Type 1} → statement M
 store-open-spec =

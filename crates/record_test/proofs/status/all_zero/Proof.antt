@@ -1,49 +1,54 @@
--- The loop's invariant: the answer for the rest is the answer for the whole.
+-- The loop's invariant: what was seen is zero and the rest is all zero, exactly when the whole is.
 use Prim.Native.Nat.{ℕ, _≤_, _+_, _*_, _-_, _/_}
 use mathlib.Core.Path.{_≡_, refl, sym, ap, _∙_}
+use mathlib.Core.Bool.{Bool, true, false, _&&_}
 use native.Mathlib.Omega.{arith}
+use lib.Bits.{bitOr}
 use lib.ListN.{length, drop, length-drop}
 use lib.Seq.{drop-drop}
 use lib.Dec.{eqb}
 use borrow.Author.Needs.{needs}
 use Rattle.rules.specs.Bytes.{Bytes, allZero, unsignedAt}
-use Rattle.record_test.proofs.Statuses.{zero-word, other-word, last-word}
+use Rattle.record_test.proofs.Statuses.{word-and-rest, either-zero, last-word}
 use Rattle.record_test.proofs.status.all_zero.Statement.{statement}
 use Rattle.record_test.proofs.status.all_zero.Tie as tie
 
 abbrev Inv-loop : tie.InvT-loop
-Inv-loop bytes n i₀ i = (i ≤ length bytes / 8) × (allZero (drop (8 * i) bytes) ≡ allZero bytes)
+Inv-loop bytes n seen₀ i₀ seen i = (i ≤ length bytes / 8) × (eqb seen 0 && allZero (drop (8 * i) bytes) ≡ allZero bytes)
 
 abbrev μ-loop : tie.MeasureT-loop
-μ-loop bytes n i₀ i = length bytes / 8 - i
+μ-loop bytes n seen₀ i₀ seen i = length bytes / 8 - i
 
-zero-at : (bs : Bytes) (i : ℕ) → unsignedAt bs (8 * i) 8 ≡ 0 → allZero (drop (8 * (i + 1)) bs) ≡ allZero (drop (8 * i) bs)
+-- a word more
+next : (bs : Bytes) (seen i w : ℕ) (all : Bool) → w ≡ unsignedAt bs (8 * i) 8 → eqb seen 0 && allZero (drop (8 * i) bs) ≡ all
+    → eqb (bitOr seen w) 0 && allZero (drop (8 * (i + 1)) bs) ≡ all
 unfolding unsignedAt
-zero-at bs i e =
+next bs seen i w all e h =
     let n : 8 * (i + 1) ≡ 8 * i + 8 = omega arith in
-    rw n (ap allZero (sym (drop-drop 8 (8 * i) bs)) ∙ sym (zero-word 8 (drop (8 * i) bs) e))
+    rw (n, either-zero seen w, e, ← drop-drop 8 (8 * i) bs) (regroup (eqb seen 0) _ _ ∙ ap (λ (b : Bool). eqb seen 0 && b) (sym (word-and-rest 8 (drop (8 * i) bs))) ∙ h)
+  where
+    regroup : (a b d : Bool) → (a && b) && d ≡ a && (b && d)
+    regroup true b d = refl
+    regroup false b d = refl
 
-returns : tie.Need-returns Inv-loop μ-loop
+-- the bytes that are left
+last : (bs : Bytes) (seen i w : ℕ) → i ≡ length bs / 8 → w ≡ unsignedAt bs (8 * (length bs / 8)) 8 → eqb seen 0 && allZero (drop (8 * i) bs) ≡ allZero bs
+    → eqb (bitOr seen w) 0 ≡ allZero bs
 unfolding unsignedAt
-returns c =
-    let l = c .before .before .before .loop in
-    let bs = c .before .before .before .before .before .args .bytes .now in
-    sym (other-word 8 (drop (8 * l .i) bs) (λ e. c .if1 .taken (c .before .u64-at .ensures ∙ e))) ∙ l .inv .1
+last bs seen i w s e h =
+    either-zero seen w
+    ∙ ap (λ (b : Bool). eqb seen 0 && b) (ap (λ (x : ℕ). eqb x 0) e ∙ last-word 8 (drop (8 * (length bs / 8)) bs) (omega (arith, length-drop (8 * (length bs / 8)) bs)) ∙ ap (λ (k : ℕ). allZero (drop (8 * k) bs)) (sym s))
+    ∙ h
 
 loop-again : tie.Need-loop-again Inv-loop μ-loop
 loop-again c =
-    let bs = c .before .before .before .before .before .args .bytes .now in
-    (omega arith, zero-at bs (c .before .before .before .loop .i) (sym (c .before .u64-at .ensures) ∙ c .if1 .left) ∙ c .before .before .before .loop .inv .1)
+    let l = c .before .before .loop in
+    (omega arith, next (c .before .before .before .before .args .bytes .now) (l .seen) (l .i) (c .u64-at .result) _ (c .u64-at .ensures) (l .inv .1))
 
-last-at : (bs : Bytes) (n i : ℕ) → n ≡ length bs / 8 → i ≡ n → allZero (drop (8 * i) bs) ≡ allZero bs → eqb (unsignedAt bs (8 * n) 8) 0 ≡ allZero bs
-unfolding unsignedAt
-last-at bs n i e h inv =
-    last-word 8 (drop (8 * n) bs) (omega (arith, length-drop (8 * n) bs)) ∙ ap (λ (k : ℕ). allZero (drop (8 * k) bs)) (sym h) ∙ inv
-
-returns-2 : tie.Need-returns-2 Inv-loop μ-loop
-returns-2 c =
-    let bs = c .before .before .before .before .args .bytes .now in
-    ap (λ (m : ℕ). eqb m 0) (c .u64-at2 .ensures) ∙ last-at bs (length bs / 8) (c .before .before .loop .i) refl (omega arith) (c .before .before .loop .inv .1)
+returns : tie.Need-returns Inv-loop μ-loop
+returns c =
+    let l = c .before .before .loop in
+    last (c .before .before .before .before .args .bytes .now) (l .seen) (l .i) (c .u64-at2 .result) (omega arith) (c .u64-at2 .ensures) (l .inv .1)
 
 pub all-zero-spec : {M : Type 1} → statement M
 all-zero-spec =
@@ -54,10 +59,9 @@ all-zero-spec =
     (λ c. (omega arith, refl))
     (λ c. omega arith)
     (λ c κs. search needs)
-    returns
     (λ c. omega arith)
     (λ c. omega arith)
     loop-again
     (λ c. omega arith)
     (λ c κs. search needs)
-    returns-2)
+    returns)

@@ -1,11 +1,13 @@
 use mathlib.Core.Path.{_≡_, sym, _∙_}
-use mathlib.Core.Bool.{false}
+use mathlib.Core.Bool.{true, false}
 use native.Mathlib.Omega.{arith}
+use lib.ListN.{length}
 use lib.Dec.{ltb, eqb}
 use borrow.Author.Needs.{needs}
-use borrow.Author.Tests.{lt-ltb, le-ltb}
+use borrow.Author.Tests.{lt-ltb, le-ltb, eq-eqb}
 use Rattle.rules.specs.Bytes.{unsignedAt}
-use Rattle.rules.specs.Record.{tagIn}
+use Rattle.rules.specs.Record.{recordSize, goodPrices, holdingsIn, tagIn}
+use Rattle.core_parts.proofs.Places.{passed, failed}
 use Rattle.fields.proofs.Offsets.{missed}
 use Rattle.record_test.proofs.status.status_of.Statement.{statement}
 use Rattle.record_test.proofs.status.status_of.Tie as tie
@@ -48,44 +50,67 @@ returns-4 c =
     let l = c .before .before in
     sym (rw (some-tag (l .before), low-tag l, missed 0 (c .before .u24-at .ensures) (c .if4 .taken)))
 
-no-outcome-requires : tie.Need-no-outcome-requires
-no-outcome-requires c κs = search needs
+prices-stand-requires : tie.Need-prices-stand-requires
+prices-stand-requires c κs = search needs
 
 padded : (c : tie.Else4) → unsignedAt (c .before .before .before .before .before .before .args .bytes .now) 37 3 ≡ 0
 padded c = sym (c .before .u24-at .ensures) ∙ c .if4 .left
 
--- of tag 1
+-- the test of the slot prices is asked of a record
+tested : (c : tie.After-prices-stand) → c .prices-stand .result ≡ goodPrices (holdingsIn (c .before .before .before .before .before .before .before .args .bytes .now))
+tested c =
+    let s = c .before .before .before .before .before .before .before in
+    c .prices-stand .ensures ∙ rw (eq-eqb (length (s .args .bytes .now)) recordSize (s .pre))
+
 returns-5 : tie.Need-returns-5
 returns-5 c =
-    let o = c .before .before in
-    let z = o .before in
-    let one = sym (z .before .before .before .before .u8-at .ensures) ∙ o .if5 .taken in
-    sym (rw (one, padded z, sym (c .before .no-outcome .ensures) ∙ c .if6 .taken))
+    let z = c .before .before in
+    let l = z .before .before in
+    sym (rw (some-tag (l .before), low-tag l, padded z, failed (tested (c .before)) (c .if5 .taken)))
 
+-- the slot prices are right
+priced : (c : tie.Else5) → goodPrices (holdingsIn (c .before .before .before .before .before .before .before .before .args .bytes .now)) ≡ true
+priced c = passed (tested (c .before)) (c .if5 .left)
+
+no-outcome-requires : tie.Need-no-outcome-requires
+no-outcome-requires c κs = search needs
+
+-- of tag 1
 returns-6 : tie.Need-returns-6
 returns-6 c =
     let o = c .before .before in
-    let z = o .before in
-    let one = sym (z .before .before .before .before .u8-at .ensures) ∙ o .if5 .taken in
-    sym (rw (one, padded z, sym (c .before .no-outcome .ensures) ∙ c .if6 .left))
+    let p = o .before in
+    let z = p .before .before in
+    let one = sym (z .before .before .before .before .u8-at .ensures) ∙ o .if6 .taken in
+    sym (rw (one, padded z, priced p, sym (c .before .no-outcome .ensures) ∙ c .if7 .taken))
+
+returns-7 : tie.Need-returns-7
+returns-7 c =
+    let o = c .before .before in
+    let p = o .before in
+    let z = p .before .before in
+    let one = sym (z .before .before .before .before .u8-at .ensures) ∙ o .if6 .taken in
+    sym (rw (one, padded z, priced p, sym (c .before .no-outcome .ensures) ∙ c .if7 .left))
 
 is-fixed-requires : tie.Need-is-fixed-requires
 is-fixed-requires c κs = search needs
 
 -- of tag 2
-returns-7 : tie.Need-returns-7
-returns-7 c =
-    let o = c .before .before in
-    let z = o .before in
-    let l = z .before .before in
-    sym (rw (some-tag (l .before), low-tag l, padded z, missed 1 (l .before .before .u8-at .ensures) (o .if5 .left), sym (c .before .is-fixed .ensures) ∙ c .if7 .taken))
-
 returns-8 : tie.Need-returns-8
 returns-8 c =
     let o = c .before .before in
-    let z = o .before in
+    let p = o .before in
+    let z = p .before .before in
     let l = z .before .before in
-    sym (rw (some-tag (l .before), low-tag l, padded z, missed 1 (l .before .before .u8-at .ensures) (o .if5 .left), sym (c .before .is-fixed .ensures) ∙ c .if7 .left))
+    sym (rw (some-tag (l .before), low-tag l, padded z, priced p, missed 1 (l .before .before .u8-at .ensures) (o .if6 .left), sym (c .before .is-fixed .ensures) ∙ c .if8 .taken))
+
+returns-9 : tie.Need-returns-9
+returns-9 c =
+    let o = c .before .before in
+    let p = o .before in
+    let z = p .before .before in
+    let l = z .before .before in
+    sym (rw (some-tag (l .before), low-tag l, padded z, priced p, missed 1 (l .before .before .u8-at .ensures) (o .if6 .left), sym (c .before .is-fixed .ensures) ∙ c .if8 .left))
 
 pub status-of-spec : {M : Type 1} → statement M
 status-of-spec =
@@ -98,9 +123,11 @@ status-of-spec =
     returns-3
     u24-at-requires
     returns-4
-    no-outcome-requires
+    prices-stand-requires
     returns-5
+    no-outcome-requires
     returns-6
-    is-fixed-requires
     returns-7
-    returns-8)
+    is-fixed-requires
+    returns-8
+    returns-9)

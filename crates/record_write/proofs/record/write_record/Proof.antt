@@ -1,11 +1,16 @@
 use Prim.Native.Nat.{_^_, _<_}
-use mathlib.Core.Path.{_≡_, refl, sym, _∙_}
+use mathlib.Core.Path.{_≡_, refl, sym, ap, _∙_}
+use mathlib.Core.List.{_++_}
 use native.Mathlib.Omega.{arith}
 use lib.ListN.{length}
 use mir.Facts.{toZ-ofZ}
-use Rattle.rules.specs.Record.{recordSize}
+use Rattle.rules.specs.Bytes.{Bytes, concat}
+use Rattle.rules.specs.Record.{recordSize, fields}
+use Rattle.rules.proofs.Bytes.{are-bytes}
+use Rattle.rules.proofs.SlotPrices.{prices-back}
 use Rattle.core_terms.specs.Params.{termsOf}
 use Rattle.core_parts.specs.States.{storedOf}
+use Rattle.record_read.specs.Records.{openingWith}
 use Rattle.record_write.proofs.Stores.{record-stored, over-whole, over-other}
 use borrow.Author.Needs.{needs}
 use Rattle.record_write.proofs.record.write_record.Statement.{statement}
@@ -77,6 +82,8 @@ returns-2 c =
     let u = a .outcome in
     let (low, times, prices) = known s in
     let f6 = s .fits .expiry in
+    let front = concat (fields (u .tag) (openingWith (a .params) (a .max-conf-bps) (a .expiry)) (storedOf x) (u .samples) (u .method) (u .«fixing_time») (u .price)) in
+    let kept = prices-back (a .part .now) (i .if1 .left) (are-bytes (a .part .now) (i .before .slice-known .given)) in
     rw (
       over-whole (a .part .now) _ (i .if1 .left),
       w6 .write-last .ensures,
@@ -87,7 +94,7 @@ returns-2 c =
       w1 .write-head .ensures,
     )
     (record-stored (u .tag) (a .max-conf-bps) (x .«sample_sum_low») (x .«sample_sum_high») (u .samples) (u .method) (u .price) (termsOf (a .params)) (a .expiry) (u .«fixing_time») (storedOf x)
-    (a .part .now) (i .if1 .left) refl low times prices)
+    (a .part .now) (i .if1 .left) refl low times prices ∙ ap (λ (r : Bytes). front ++ r) (sym kept))
 
 pub write-record-spec : {M : Type 1} → statement M
 write-record-spec =
