@@ -8,9 +8,10 @@ ghost use Rattle.book.specs.Looks.{lookResultOf};
 // The bytes of a record.
 pub const RECORD_SIZE: usize = 456;
 
-// Where the slot prices of a record begin, and how many places there are.
+// Where the slot prices of a record begin.
 pub const SLOT_PRICES_AT: usize = 200;
 
+// How many slot prices a record has.
 pub const SLOT_PLACES: u8 = 32;
 
 // How many series a book has.

@@ -94,8 +94,8 @@ fn one_if(b: bool) -> u64
 }
 
 // Gives the entry to the book: a refusal's number, or 255 Opened, 254 Used, 253 Wait, 252 Settle,
-// 251 Void, 250 Done. Used stores slot, link and fallback in the three numbers, Wait its time in the first,
-// Settle method, price and samples; a number that the answer does not have stays.
+// 251 Void, 250 Done. Used stores slot, link and fallback in the three numbers, Wait its time in the
+// first, Settle method, price and samples; a number that the answer does not have stays.
 #[no_mangle]
 pub extern "C" fn lanternfold_command(
     book: &mut [u8],

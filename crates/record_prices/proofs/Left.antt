@@ -10,7 +10,7 @@ use lib.Dec.{ltb, eqb, lit<}
 use lib.Arith.{lt-of-le-ne}
 use lib.Pow.{pow-mono}
 use borrow.Author.Tests.{eq-eqb, ne-eqb, eqb-true, eqb-false}
-use Rattle.rules.proofs.Bools.{and-true}
+use Rattle.rules.proofs.Bools.{and-true, and-assoc}
 use Rattle.rules.proofs.Bytes.{drop-bytes, little-below}
 use Rattle.rules.proofs.SlotPrices.{price-at}
 use Rattle.rules.specs.Log.{if_then_else_, Σ<, all<}
@@ -46,10 +46,6 @@ bit-small p {b} e = rw e (go (ltb 0 p))
     go true = omega arith
     go false = omega arith
 
-regroup : (a b e f : Bool) → f ≡ b && e → a && f ≡ (a && b) && e
-regroup true b e f h = h
-regroup false b e f h = refl
-
 -- two halves against two
 pub halves-differ : (h l h′ l′ : ℕ) → l < 2 ^ 64 → l′ < 2 ^ 64 → (l′ ≡ l → ⊥) → eqb (h * 2 ^ 64 + l) (h′ * 2 ^ 64 + l′) ≡ false
 halves-differ h l h′ l′ s s′ d = ne-eqb (h * 2 ^ 64 + l) (h′ * 2 ^ 64 + l′) (λ e. d (omega arith))
@@ -67,7 +63,8 @@ one-less : (test : ℕ → Bool) (all : Bool) (set i bits bits′ : ℕ) (p : Bo
 unfolding bit
 one-less test all set i bits bits′ p e eb h =
     let half : set / 2 ^ suc i ≡ set / 2 ^ i / 2 = ap (λ (n : ℕ). set / n) (pow-suc 2 i) ∙ sym (div-div-eq-div-mul set (2 ^ i) 2) in
-    regroup (all< i test) (test i) (eqb bits (set / 2 ^ suc i)) (eqb bits′ (set / 2 ^ i)) (rw (eb, e, half) (last-digit bits (set / 2 ^ i) p)) ∙ h
+    let both : eqb bits′ (set / 2 ^ i) ≡ test i && eqb bits (set / 2 ^ suc i) = rw (eb, e, half) (last-digit bits (set / 2 ^ i) p) in
+    ap (λ (b : Bool). all< i test && b) both ∙ sym (and-assoc (all< i test) (test i) (eqb bits (set / 2 ^ suc i))) ∙ h
 
 wider : (n i bits bits′ : ℕ) (p : Bool) → i < n → bits < 2 ^ (n - suc i) → bits′ ≡ 2 * bits + (if p then 1 else 0) → bits′ < 2 ^ (n - i)
 wider n i bits bits′ p l h e =

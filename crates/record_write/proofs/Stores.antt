@@ -17,6 +17,7 @@ use Rattle.rules.specs.Series.{Opening, slotPlaces}
 use Rattle.rules.specs.Record.{recordSize, slotPricesAt, eight, eightSigned, fields}
 use Rattle.rules.proofs.Bools.{and-false}
 use Rattle.rules.proofs.Bytes.{length-bytes, sets-append}
+use Rattle.rules.proofs.SlotPrices.{length-eight}
 use Rattle.record_write.specs.Stores.{headFields, secondsFields, sumFields, lastFields, recordOver, pricedOver}
 
 after : (f g l : Bytes) (i j : ℕ) → i + length f ≡ j → sets (sets l i f) j g ≡ sets l i (f ++ g)
@@ -89,13 +90,6 @@ concat-append : (fs gs : List Bytes) → concat (fs ++ gs) ≡ concat fs ++ conc
 concat-append [] gs = refl
 concat-append (f ∷ fs) gs = ap (λ (r : Bytes). f ++ r) (concat-append fs gs) ∙ sym (append-assoc f (concat fs) (concat gs))
 
-length-eight : (l : List ℕ) → length l ≡ 5 → length (concat (eight l)) ≡ 40
-length-eight l h = go l ∙ ap (λ (n : ℕ). n * 8) h
-  where
-    go : (l : List ℕ) → length (concat (eight l)) ≡ length l * 8
-    go [] = refl
-    go (v ∷ l) = rw (length-append (bytes 8 v) (concat (eight l)), length-bytes 8 v, go l) (omega arith)
-
 length-signed : (l : List ℤ) → length l ≡ 5 → length (concat (eightSigned l)) ≡ 40
 length-signed l h = go l ∙ ap (λ (n : ℕ). n * 8) h
   where
@@ -137,7 +131,7 @@ module _ (tag bps low high samples number price : ℕ) (t : Terms) (E at : ℤ) 
       (concat (headFields tag t (s .links) bps samples)) (concat (secondsFields t (s .bits) number)) (concat (sumFields E low high))
       (concat (eightSigned (s .times))) (concat (eight (s .prices)))
       (concat (lastFields (s .fallbackTime) (s .fallbackPrice) (s .windowChanged) (s .linkChanged) (s .fallbackChanged) at price))
-      l refl refl refl (length-signed (s .times) ht) (length-eight (s .prices) hp) refl hl
+      l refl refl refl (length-signed (s .times) ht) (length-eight (s .prices) ∙ ap (λ (n : ℕ). 8 * n) hp) refl hl
       ∙ rw (hs, digits-mod high {m = 2 ^ 64} {r = low} hb, digits-div high {m = 2 ^ 64} {r = low} hb, concat-append (eightSigned (s .times)) _, concat-append (eight (s .prices)) _) refl
 
   pub length-fields : s .sum ≡ high * 2 ^ 64 + low → low < 2 ^ 64 → length (s .times) ≡ 5 → length (s .prices) ≡ 5

@@ -17,6 +17,10 @@ pub and-false : (a : Bool) → a && false ≡ false
 and-false true = refl
 and-false false = refl
 
+pub and-assoc : (a b c : Bool) → (a && b) && c ≡ a && (b && c)
+and-assoc true b c = refl
+and-assoc false b c = refl
+
 pub or-true : (a : Bool) → a || true ≡ true
 or-true true = refl
 or-true false = refl

@@ -24,7 +24,7 @@ eights-back bs are at i (suc n) h =
     rw (field-back bs are (at + 8 * i) 8 (omega arith), eights-back bs are at (suc i) n (omega arith), more, on, ← drop-drop 8 (at + 8 * i) bs)
     (sym (take-add 8 (8 * n) (drop (at + 8 * i) bs)))
 
-length-eight : (xs : List ℕ) → length (concat (eight xs)) ≡ 8 * length xs
+pub length-eight : (xs : List ℕ) → length (concat (eight xs)) ≡ 8 * length xs
 length-eight [] = refl
 length-eight (x ∷ xs) = rw (length-append (bytes 8 x) (concat (eight xs)), length-bytes 8 x, length-eight xs) (omega arith)
 

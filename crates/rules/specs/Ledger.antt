@@ -85,7 +85,7 @@ module _ (o : Opening) where
   afterWithdrawal (es ▹ posted p) i = afterWithdrawal es i ▹ p
   afterWithdrawal (es ▹ withdrawal now k) i = if eqb k i && isSome (firstFor i (afterWithdrawal es i)) then ε else afterWithdrawal es i
 
-  -- "Slot i holds the first taken print canonical for it", #103: since it was last freed
+  -- what slot i holds: of the prints since it was last freed, the first that is canonical for it (#103)
   unfoldable pub holder : Log Event → ℕ → Option Posting
   holder es i = firstFor i (afterWithdrawal es i)
 
@@ -113,7 +113,7 @@ module _ (o : Opening) where
   movesWindow ahead (posted p) = fillsSlot ahead p
   movesWindow ahead (withdrawal now i) = ltb i (slots (o .terms)) && isSome (holder ahead i)
 
-  -- "the sum adds those prices"; a changed time is the now of the last print that was placed there, for the window of the last event that moved it, else 0
+  -- "the sum adds those prices"; changed times: the now of the print that was placed last as a link or as the fallback, and of the event that moved the window last; 0 for none
   unfoldable pub candidates : Log Event → Candidates
   candidates es =
       record {

@@ -1,7 +1,7 @@
 -- The loop's invariant: what was seen is zero and the rest is all zero, exactly when the whole is.
 use Prim.Native.Nat.{ℕ, _≤_, _+_, _*_, _-_, _/_}
 use mathlib.Core.Path.{_≡_, refl, sym, ap, _∙_}
-use mathlib.Core.Bool.{Bool, true, false, _&&_}
+use mathlib.Core.Bool.{Bool, _&&_}
 use native.Mathlib.Omega.{arith}
 use lib.Bits.{bitOr}
 use lib.ListN.{length, drop, length-drop}
@@ -9,6 +9,7 @@ use lib.Seq.{drop-drop}
 use lib.Dec.{eqb}
 use borrow.Author.Needs.{needs}
 use Rattle.rules.specs.Bytes.{Bytes, allZero, unsignedAt}
+use Rattle.rules.proofs.Bools.{and-assoc}
 use Rattle.record_test.proofs.Statuses.{word-and-rest, either-zero, last-word}
 use Rattle.record_test.proofs.status.all_zero.Statement.{statement}
 use Rattle.record_test.proofs.status.all_zero.Tie as tie
@@ -25,11 +26,7 @@ next : (bs : Bytes) (seen i w : ℕ) (all : Bool) → w ≡ unsignedAt bs (8 * i
 unfolding unsignedAt
 next bs seen i w all e h =
     let n : 8 * (i + 1) ≡ 8 * i + 8 = omega arith in
-    rw (n, either-zero seen w, e, ← drop-drop 8 (8 * i) bs) (regroup (eqb seen 0) _ _ ∙ ap (λ (b : Bool). eqb seen 0 && b) (sym (word-and-rest 8 (drop (8 * i) bs))) ∙ h)
-  where
-    regroup : (a b d : Bool) → (a && b) && d ≡ a && (b && d)
-    regroup true b d = refl
-    regroup false b d = refl
+    rw (n, either-zero seen w, e, ← drop-drop 8 (8 * i) bs) (and-assoc (eqb seen 0) _ _ ∙ ap (λ (b : Bool). eqb seen 0 && b) (sym (word-and-rest 8 (drop (8 * i) bs))) ∙ h)
 
 -- the bytes that are left
 last : (bs : Bytes) (seen i w : ℕ) → i ≡ length bs / 8 → w ≡ unsignedAt bs (8 * (length bs / 8)) 8 → eqb seen 0 && allZero (drop (8 * i) bs) ≡ allZero bs
