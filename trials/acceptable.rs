@@ -1,6 +1,7 @@
-//! 01's "Record" with #103 once more: whether 456 bytes are acceptable, written from the text and not from the code.
-//! Of the core it takes the decision alone.
-use metalbook_core::{Decision, OracleParams, SettlementParts, SettlementState, UnixTimestamp};
+//! 01's "Record" with #103 and #109 once more: whether 456 bytes are acceptable, written from the text and not from the
+//! code. The outcome of a fixed record is worked out here too, by the order of its tag; of the core it takes the mean
+//! alone.
+use metalbook_core::to_atoms;
 
 fn unsigned(b: &[u8], at: usize, width: usize) -> u128 {
     (0..width).map(|i| u128::from(b[at + i]) << (8 * i)).sum()
@@ -58,46 +59,62 @@ fn has_good_prices(b: &[u8]) -> bool {
         && prices.iter().sum::<u128>() == unsigned(b, 48, 16)
 }
 
-/// The decision at the fixing time. `None` where it is a refusal, and where the core takes the terms or the state for bad.
-fn decision(b: &[u8]) -> Option<Decision> {
-    let [window, slot, delay, lookback, hard] = [12, 16, 20, 24, 28].map(|at| unsigned(b, at, 4) as u32);
-    let (tolerance, minimum) = (unsigned(b, 4, 2) as u16, unsigned(b, 6, 2) as u16);
-    let terms =
-        OracleParams::try_new(window, slot, tolerance, minimum, b[1], delay, lookback, hard, b[2] as i8).ok()?;
-    let parts = SettlementParts {
-        sample_sum: unsigned(b, 48, 16),
-        filled_slots: unsigned(b, 32, 4) as u32,
-        next_times: [0, 1, 2, 3, 4].map(|i| signed(b, 64 + 8 * i, 8) as i64),
-        next_prices: [0, 1, 2, 3, 4].map(|i| unsigned(b, 104 + 8 * i, 8) as u64),
-        next_len: b[3],
-        fallback_time: signed(b, 144, 8) as i64,
-        fallback_price: unsigned(b, 152, 8) as u64,
-        window_changed: signed(b, 160, 8) as i64,
-        next_print_changed: signed(b, 168, 8) as i64,
-        fallback_changed: signed(b, 176, 8) as i64,
-    };
-    let state = SettlementState::restore(&terms, parts).ok()?;
-    state.decide(&terms, UnixTimestamp::new(signed(b, 40, 8) as i64), signed(b, 184, 8) as i64).ok()
+/// A step of the decision: whether its candidates are there, its method, the time from which it settles, and the prices
+/// that it does so by, as their sum and their number.
+type Step = (bool, u8, i128, (u128, u32));
+
+/// The steps at a time from E on. Of the two partial ones the chain's comes first, and by the vote the window's where
+/// it has more prints. The body has passed the other tests.
+fn steps(b: &[u8], now: i128, is_voted: bool) -> Vec<Step> {
+    let [window, slot, delay, hard] = [12, 16, 20, 28].map(|at| unsigned(b, at, 4) as i128);
+    let [expiry, window_changed, link_changed, fallback_changed] = [40, 160, 168, 176].map(|at| signed(b, at, 8));
+    let (minimum, k) = (unsigned(b, 6, 2) as u32, u32::from(b[1]));
+    let (n, m) = (unsigned(b, 32, 4).count_ones(), u32::from(b[3]));
+    let slot_prints = (unsigned(b, 48, 16), n);
+    let link_prints = ((0..5).map(|i| unsigned(b, 104 + 8 * i, 8)).sum(), m);
+    let fallback = unsigned(b, 152, 8);
+    let h = expiry + hard;
+    let chain = (m > 0, 2, h.max(link_changed) + delay, link_prints);
+    let partial_window = (n > 0, 3, h.max(window_changed) + delay, slot_prints);
+    let partial = if is_voted && m < n { [partial_window, chain] } else { [chain, partial_window] };
+    let mut steps = vec![
+        (i128::from(n) >= window / slot, 0, expiry, slot_prints),
+        (n >= minimum, 0, expiry.max(window_changed) + delay, slot_prints),
+        (m >= k, 1, expiry + delay, link_prints),
+        // Nothing settles from H: before it, this is a Wait.
+        (now < h, u8::MAX, h, (0, 0)),
+    ];
+    steps.extend(partial);
+    steps.push((fallback > 0, 4, h.max(fallback_changed) + delay, (fallback, 1)));
+    steps.push((true, 5, h + delay, (0, 0)));
+    steps
 }
 
-/// "Tag 1: samples, method, fixing time and price zero. Tag 2: the decision at the fixing time is final and is what
-/// stands there (Void: method 5, samples and price zero)."
+/// Method, price and samples of the decision at a time. `None` where that is a Wait or a refusal: a time that does not
+/// fit is also one that does not come.
+fn outcome(b: &[u8], now: i128, is_voted: bool) -> Option<(u8, u64, u32)> {
+    let (expiry, h) = (signed(b, 40, 8), signed(b, 40, 8) + unsigned(b, 28, 4) as i128);
+    if now < expiry || i128::from(i64::MAX) < h {
+        return None;
+    }
+    let (_, method, from, (sum, count)) = steps(b, now, is_voted).into_iter().find(|step| step.0)?;
+    match method {
+        _ if now < from => None,
+        5 => Some((5, 0, 0)),
+        _ => Some((method, to_atoms(sum, count, b[2] as i8).ok()?.get(), count)),
+    }
+}
+
+/// 01 of tag 1: "samples, method, fixing time and price zero". Of a fixed record: "the decision at the fixing time is
+/// final and is what stands there (Void: method 5, samples and price zero)". #109: by the old order under tag 2, by the
+/// voted one under tag 3, and no tag above.
 pub fn is_acceptable(b: &[u8]) -> bool {
-    let (samples, method, price) = (unsigned(b, 10, 2), b[36], unsigned(b, 192, 8));
+    let (samples, method, price) = (unsigned(b, 10, 2) as u32, b[36], unsigned(b, 192, 8) as u64);
     let has_good_body = || unsigned(b, 37, 3) == 0 && has_good_terms(b) && has_good_state(b) && has_good_prices(b);
     match b[0] {
         0 => b.iter().all(|x| *x == 0),
         1 => has_good_body() && samples == 0 && method == 0 && unsigned(b, 184, 8) == 0 && price == 0,
-        2 => {
-            has_good_body()
-                && match decision(b) {
-                    Some(Decision::Settle { method: m, price: p, samples: n }) => {
-                        (method, price, samples) == (m as u8, u128::from(p.get()), u128::from(n))
-                    }
-                    Some(Decision::Void) => (method, price, samples) == (5, 0, 0),
-                    Some(Decision::Wait { .. }) | None => false,
-                }
-        }
+        tag @ (2 | 3) => has_good_body() && outcome(b, signed(b, 184, 8), tag == 3) == Some((method, price, samples)),
         _ => false,
     }
 }

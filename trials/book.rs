@@ -55,6 +55,20 @@ impl From<Decision> for Answer {
     }
 }
 
+/// The tags of a record. A fixed one has the tag of the order by which it was fixed.
+const EMPTY: u8 = 0;
+const OPEN: u8 = 1;
+const FIXED_OLD: u8 = 2;
+const FIXED_VOTED: u8 = 3;
+
+/// Which of two partial candidates goes first after the hard deadline: always the chain, or, as the members voted
+/// (#109), the window where it has more prints.
+#[derive(Clone, Copy)]
+pub enum Order {
+    Old,
+    Voted,
+}
+
 /// The terms and candidates of a series. Its slot prices stay in the record.
 pub struct Series {
     pub params: OracleParams,
@@ -188,10 +202,11 @@ fn read_series(record: &[u8; RECORD]) -> Option<Series> {
     Some(Series { params, max_conf_bps, expiry, state })
 }
 
-/// The decision at the fixing time, computed again, where it is final and is what stands in the record.
-fn read_fixed(record: &[u8; RECORD]) -> Option<Decision> {
+/// The decision at the fixing time, computed again by the order of the tag, where it is final and is what stands in the
+/// record.
+fn read_fixed(record: &[u8; RECORD], order: Order) -> Option<Decision> {
     let outcome = read_outcome(record);
-    let decision = read_series(record)?.decide(outcome.time).ok()?;
+    let decision = read_series(record)?.decide(order, outcome.time).ok()?;
     (Outcome::of(decision, outcome.time)? == outcome).then_some(decision)
 }
 
@@ -199,16 +214,47 @@ fn read_fixed(record: &[u8; RECORD]) -> Option<Decision> {
 #[inline]
 fn read(record: &[u8; RECORD]) -> Stored {
     match record[0] {
-        0 if *record == [0; RECORD] => Stored::Empty,
-        1 if read_outcome(record) == Outcome::default() => read_series(record).map_or(Stored::Bad, Stored::Open),
-        2 => read_fixed(record).map_or(Stored::Bad, Stored::Fixed),
+        EMPTY if *record == [0; RECORD] => Stored::Empty,
+        OPEN if read_outcome(record) == Outcome::default() => read_series(record).map_or(Stored::Bad, Stored::Open),
+        FIXED_OLD => read_fixed(record, Order::Old).map_or(Stored::Bad, Stored::Fixed),
+        FIXED_VOTED => read_fixed(record, Order::Voted).map_or(Stored::Bad, Stored::Fixed),
         _ => Stored::Bad,
     }
 }
 
+// #109 above the unchanged core, which knows the old order only. Where the vote puts the window before the chain, the
+// core is asked about the same candidates with the chain taken out, and so comes to the window. Everywhere else the two
+// orders give one decision, and it is asked about the state itself.
 impl Series {
-    fn decide(&self, now: i64) -> Result<Decision, CoreError> {
+    fn decide(&self, order: Order, now: i64) -> Result<Decision, CoreError> {
+        if matches!(order, Order::Voted) && self.has_window_first(now) {
+            return self.decide_without_chain(now);
+        }
         self.state.decide(&self.params, self.expiry, now)
+    }
+
+    /// Whether it comes to the two partial steps at this time, both have prints, and the window has more. Where H does
+    /// not fit, it comes to no step. The slots are counted last: that takes the most instructions.
+    fn has_window_first(&self, now: i64) -> bool {
+        let (terms, links) = (&self.params, self.state.next_len());
+        let hard = self.expiry.get().checked_add(i64::from(terms.hard_deadline_s()));
+        0 < links && links < terms.k_next_print() && hard.is_some_and(|hard| hard <= now) && {
+            let slots = self.state.filled();
+            u32::from(links) < slots && slots < u32::from(terms.min_samples())
+        }
+    }
+
+    /// Not inlined: so the decisions that the vote does not change take fewer instructions.
+    #[inline(never)]
+    fn decide_without_chain(&self, now: i64) -> Result<Decision, CoreError> {
+        let none = SettlementParts::default();
+        let parts = SettlementParts {
+            next_times: none.next_times,
+            next_prices: none.next_prices,
+            next_len: none.next_len,
+            ..self.state.parts()
+        };
+        SettlementState::restore(&self.params, parts)?.decide(&self.params, self.expiry, now)
     }
 
     /// Writes the whole record but the slot prices.
@@ -247,14 +293,18 @@ impl Series {
     }
 
     pub fn write_open(&self, record: &mut [u8; RECORD]) {
-        self.write(record, 1, &Outcome::default());
+        self.write(record, OPEN, &Outcome::default());
     }
 
     /// Stores the decision at this time and gives it back; 39 where it is not final.
-    pub fn write_fixed(&self, record: &mut [u8; RECORD], now: i64) -> Result<Decision, u8> {
-        let decision = self.decide(now).map_err(number)?;
+    pub fn write_fixed(&self, record: &mut [u8; RECORD], order: Order, now: i64) -> Result<Decision, u8> {
+        let decision = self.decide(order, now).map_err(number)?;
         let outcome = Outcome::of(decision, now).ok_or(NOT_YET)?;
-        self.write(record, 2, &outcome);
+        let tag = match order {
+            Order::Old => FIXED_OLD,
+            Order::Voted => FIXED_VOTED,
+        };
+        self.write(record, tag, &outcome);
         Ok(decision)
     }
 }
@@ -331,7 +381,7 @@ fn ask(book: &mut [u8; BOOK], entry: &[u8; ASK_WIDTH]) -> Result<Answer, u8> {
         Stored::Bad => Err(NOT_ACCEPTABLE),
         Stored::Empty => Err(SERIES_EMPTY),
         Stored::Fixed(decision) => Ok(Answer::from(*decision)),
-        Stored::Open(series) => series.decide(now).map(Answer::from).map_err(number),
+        Stored::Open(series) => series.decide(Order::Voted, now).map(Answer::from).map_err(number),
     }
 }
 
@@ -342,7 +392,7 @@ fn fix(book: &mut [u8; BOOK], entry: &[u8; ASK_WIDTH]) -> Result<Answer, u8> {
         Stored::Bad => Err(NOT_ACCEPTABLE),
         Stored::Empty => Err(SERIES_EMPTY),
         Stored::Fixed(_) => Err(SERIES_FIXED),
-        Stored::Open(series) => series.write_fixed(record, now).map(Answer::from),
+        Stored::Open(series) => series.write_fixed(record, Order::Voted, now).map(Answer::from),
     }
 }
 

@@ -51,18 +51,29 @@ fn left(entries: &[Vec<u8>]) -> [u8; RECORD] {
     record
 }
 
-/// A command of this kind, and the answer's code.
-fn case(random: &mut Random, kind: &str) -> (Case, u8) {
-    let opening = open_entry(SERIES, TERMS, 100, EXPIRY);
+/// How many slots and links a series of this kind has.
+fn candidates(random: &mut Random, kind: &str) -> (u64, u64) {
     let slots = match kind {
-        "ask_settle" | "ask_fixed" | "fix" => 20 + random.below(11),
+        "ask_settle" | "ask_fixed" | "ask_fixed_old" | "fix" => 20 + random.below(11),
+        "ask_partial_next" => 1 + random.below(4),
+        "ask_voted" => 2 + random.below(18),
         _ => 1 + random.below(19),
     };
     let links = match kind {
         "ask_next_print" => 5,
-        "ask_partial_next" => 1 + random.below(4),
+        // No fewer than the slots.
+        "ask_partial_next" => slots + random.below(5 - slots),
+        // Fewer than the slots.
+        "ask_voted" => 1 + random.below((slots - 1).min(4)),
         _ => random.below(5),
     };
+    (slots, links)
+}
+
+/// A command of this kind, and the answer's code.
+fn case(random: &mut Random, kind: &str) -> (Case, u8) {
+    let opening = open_entry(SERIES, TERMS, 100, EXPIRY);
+    let (slots, links) = candidates(random, kind);
     let mut entries = vec![opening.clone()];
     entries.extend((0..slots).map(|i| slot_print(random, i)));
     entries.extend((0..links).map(|i| link_print(random, i)));
@@ -73,7 +84,9 @@ fn case(random: &mut Random, kind: &str) -> (Case, u8) {
         "offer_link" => (link_print(random, links), 254),
         "offer_14" => (entries[slots as usize].clone(), 14),
         "ask_wait" => (ask_entry(SERIES, EXPIRY + random.below(1_000) as i64), 253),
-        "ask_settle" | "ask_next_print" | "ask_partial_next" | "ask_fixed" => (ask_entry(SERIES, late), 252),
+        "ask_settle" | "ask_next_print" | "ask_partial_next" | "ask_voted" | "ask_fixed" | "ask_fixed_old" => {
+            (ask_entry(SERIES, late), 252)
+        }
         "fix" => (fix_entry(SERIES, late), 252),
         "fix_39" => (fix_entry(SERIES, EXPIRY + random.below(1_000) as i64), 39),
         "withdraw" => (withdraw_entry(SERIES, late, random.below(slots) as u8), 250),
@@ -82,10 +95,15 @@ fn case(random: &mut Random, kind: &str) -> (Case, u8) {
     };
     match kind {
         "open" => entries.clear(),
-        "ask_fixed" => entries.push(fix_entry(SERIES, late)),
+        "ask_fixed" | "ask_fixed_old" => entries.push(fix_entry(SERIES, late)),
         _ => (),
     }
-    (Case { record: left(&entries), entry }, code)
+    let mut record = left(&entries);
+    if kind == "ask_fixed_old" {
+        // A window that settles does so by either order.
+        record[0] = 2;
+    }
+    (Case { record, entry }, code)
 }
 
 /// The number of the method by which a series of this kind settles.
@@ -93,6 +111,7 @@ fn method(kind: &str) -> u64 {
     match kind {
         "ask_next_print" => 1,
         "ask_partial_next" => 2,
+        "ask_voted" => 3,
         _ => 0,
     }
 }

@@ -1,12 +1,13 @@
-//! Compares the proved book with the Rust's: hostile journals, records that are not acceptable, books of other lengths.
+//! Compares the proved book with the Rust's: hostile journals, records that are not acceptable, records fixed by either
+//! order, books of other lengths.
 use super::acceptable::is_acceptable;
 use super::book::{BOOK, OLD_BOOK, RECORD, rust_command};
-use super::by_hand::{damaged_records, full_windows, moved_prices, orders};
+use super::by_hand::{contests, damaged_records, full_windows, moved_prices, orders, tags};
 use super::journals::{Mood, change_field, each_command, fields, move_price, next, planted, zeroed};
 use super::kinds::{Seen, kind, own_record};
 use super::record::high_half;
 use super::slots::{self, Past};
-use super::{Given, Random, give, hex, lanternfold_command};
+use super::{Given, Random, give, hex, lanternfold_command, vote};
 use std::collections::BTreeMap;
 
 /// Both sides' books, which are equal before each command, and what was found.
@@ -25,6 +26,8 @@ struct Trial {
     records: [u64; 2],
     /// Settlements by the chain, by the high half of its total.
     by_chain: [u64; 5],
+    /// Decisions on open series that must be the core's own, and those that the vote changes.
+    decisions: [u64; 2],
 }
 
 impl Trial {
@@ -41,6 +44,7 @@ impl Trial {
             different: 0,
             records: [0; 2],
             by_chain: [0; 5],
+            decisions: [0; 2],
         }
     }
 
@@ -58,9 +62,9 @@ impl Trial {
     fn both(&mut self, entry: Vec<u8>) -> bool {
         let ours = give(lanternfold_command, &mut self.ours, &entry);
         let rust = give(rust_command, &mut self.rust, &entry);
-        let record = own_record(&self.before, &entry);
+        let record = own_record(&self.before, &entry).map(<[u8]>::to_vec);
         self.tried += 1;
-        self.seen.add(&kind(record, &entry, rust));
+        self.seen.add(&kind(record.as_deref(), &entry, rust));
         let mut wrong = String::new();
         if ours != rust {
             wrong = "the answers differ".into();
@@ -68,21 +72,11 @@ impl Trial {
             wrong = "the books differ".into();
         }
         if let Some(record) = record {
-            let is_good = is_acceptable(record);
-            self.records[usize::from(!is_good)] += 1;
-            if rust.0 == 252 && matches!(rust.1[0], 1 | 2) {
-                self.by_chain[high_half(&link_prices(record))] += 1;
+            let is_good = is_acceptable(&record);
+            self.count(&record, &entry, rust, is_good);
+            if let Some(fault) = self.fault(&record, &entry, ours, is_good) {
+                wrong = fault.into();
             }
-            if is_good == (rust.0 == 11) {
-                wrong = format!("by 01's text the record is {}acceptable", if is_good { "" } else { "not " });
-            }
-            let after = own_record(&self.rust, &entry).unwrap_or(record);
-            if !slots::are_as_due(record, after, &entry, rust) {
-                wrong = "by #103's text the slots are left otherwise".into();
-            } else if rust.0 >= 250 && !is_acceptable(after) {
-                wrong = "an accepted command leaves a record that is not acceptable".into();
-            }
-            self.past.marks(record, &entry, rust).iter().for_each(|mark| self.seen.add(mark));
         }
         if wrong.is_empty() && !self.is_kept(&entry, rust) {
             wrong = "bytes are changed that the answer does not allow".into();
@@ -92,6 +86,37 @@ impl Trial {
             self.report(&wrong, ours, rust);
         }
         wrong.is_empty()
+    }
+
+    /// What the papers' texts say against our answer, and against the record that it left.
+    fn fault(&mut self, record: &[u8], entry: &[u8], ours: Given, is_good: bool) -> Option<&'static str> {
+        let after = own_record(&self.ours, entry).unwrap_or(record);
+        if is_good == (ours.0 == 11) {
+            let wrong = ["by the text the record is not acceptable", "by the text the record is acceptable"];
+            return Some(wrong[usize::from(is_good)]);
+        }
+        if !slots::are_as_due(record, after, entry, ours) {
+            return Some("by #103's text the slots are left otherwise");
+        }
+        if ours.0 >= 250 && !is_acceptable(after) {
+            return Some("an accepted command leaves a record that is not acceptable");
+        }
+        if ours.0 > 250 && entry[0] == 4 && after[0] != 3 {
+            return Some("by #109's text a fix leaves tag 3");
+        }
+        let (due, is_changed) = if is_good { vote::due(record, entry)? } else { return None };
+        self.decisions[usize::from(is_changed)] += 1;
+        if ours == due { None } else { Some("by #109's text, from the core's own decisions, this one is another") }
+    }
+
+    /// Counts what there is to count of an answer beside its kind.
+    fn count(&mut self, record: &[u8], entry: &[u8], rust: Given, is_good: bool) {
+        self.records[usize::from(!is_good)] += 1;
+        if rust.0 == 252 && matches!(rust.1[0], 1 | 2) {
+            self.by_chain[high_half(&link_prices(record))] += 1;
+        }
+        self.past.marks(record, entry, rust).iter().for_each(|mark| self.seen.add(mark));
+        vote::marks(record, entry, is_good).iter().for_each(|mark| self.seen.add(mark));
     }
 
     /// Whether all but the own record of a command that stores something is as it was. Takes that record over.
@@ -129,27 +154,35 @@ fn link_prices(record: &[u8]) -> [u64; 5] {
 }
 
 /// Acceptable records that journals left, a few of each kind: the tag, and for an open record which candidates it has
-/// (slots, how many links, a fallback), for a fixed one its method.
+/// (slots, how many links, a fallback), for a fixed one its method, and whether the two orders differ on it.
 #[derive(Default)]
 struct Kept(BTreeMap<[u8; 4], Vec<[u8; RECORD]>>);
 
 impl Kept {
     const OF_EACH: usize = 4;
 
-    /// Empty; open with or without slots and a fallback, with none to five links; fixed by each of six methods.
-    const KINDS: usize = 1 + 2 * 2 * 6 + 6;
+    /// Empty; open with or without slots and a fallback, with none to five links; fixed by each of six methods under
+    /// either tag, and under either where the orders differ.
+    const KINDS: usize = 1 + 2 * 2 * 6 + 2 * (6 + 1);
 
-    fn add(&mut self, record: &[u8]) {
+    /// Keeps a record, and what the old order makes of a fixed one: no command leaves such a record.
+    fn add(&mut self, record: &[u8; RECORD]) {
+        self.add_one(record);
+        if record[0] == 3 {
+            vote::by_old_order(record).iter().for_each(|old| self.add_one(old));
+        }
+    }
+
+    fn add_one(&mut self, record: &[u8; RECORD]) {
         let has = |from: usize| u8::from(record[from..from + 8].iter().any(|b| *b != 0));
         let kind = match record[0] {
+            0 => [0; 4],
             1 => [1, has(48), record[3], has(152)],
-            tag => [tag, record[36], 0, 0],
+            tag => [tag, record[36], u8::from(vote::is_contested(record)), 0],
         };
         let kept = self.0.entry(kind).or_default();
         if kept.len() < Self::OF_EACH {
-            let mut copy = [0; RECORD];
-            copy.copy_from_slice(record);
-            kept.push(copy);
+            kept.push(*record);
         }
     }
 }
@@ -168,7 +201,7 @@ fn journals(trial: &mut Trial, random: &mut Random, commands: u64) -> Kept {
                 break;
             }
         }
-        trial.rust.chunks(RECORD).take(4).for_each(|record| kept.add(record));
+        trial.rust.as_chunks().0.iter().take(4).for_each(|record| kept.add(record));
     }
     kept
 }
@@ -186,6 +219,24 @@ fn planted_journals(trial: &mut Trial, random: &mut Random, commands: u64) {
             if !trial.both(entry) {
                 break;
             }
+        }
+    }
+}
+
+/// So many records on which the orders differ, each with its own tag, with the other order's, and with one above.
+fn wrong_tags(trial: &mut Trial, random: &mut Random, count: u32) {
+    let mut found = 0;
+    while found < count {
+        let record = planted(random);
+        if record[0] < 2 || !vote::is_contested(&record) {
+            continue;
+        }
+        found += 1;
+        let mut book = zeroed();
+        for tag in [record[0], record[0] ^ 1, random.pick(&[4, 5, 128, 255])] {
+            book[..RECORD].copy_from_slice(&record);
+            book[0] = tag;
+            each_on(trial, random, &book, 0);
         }
     }
 }
@@ -228,7 +279,58 @@ fn damaged(trial: &mut Trial, random: &mut Random, records: &[[u8; RECORD]]) {
     }
 }
 
-/// Entries that could be refused for two reasons, records that break one condition, and windows of the greatest prices.
+/// A record that is as good under tag 2 as under tag 3: each command must answer the same on both, and change neither.
+fn alike(trial: &mut Trial, random: &mut Random, record: &[u8; RECORD]) {
+    let books = [2, 3].map(|tag| {
+        let mut book = zeroed();
+        book[..RECORD].copy_from_slice(record);
+        book[0] = tag;
+        book
+    });
+    for entry in each_command(random, &books[0], 0) {
+        let given = books.each_ref().map(|book| {
+            let mut after = book.clone();
+            (give(lanternfold_command, &mut after, &entry), after == *book)
+        });
+        if given[0] != given[1] || !given[0].1 {
+            trial.begin(&books[0]);
+            trial.entries.push(entry);
+            trial.report("tag 2, here ours, and tag 3, here the Rust, are not treated alike", given[0].0, given[1].0);
+        }
+    }
+}
+
+/// Those of the records that are as good under either tag.
+fn all_alike(trial: &mut Trial, random: &mut Random, records: &[[u8; RECORD]]) {
+    let is_fixed = |record: &&[u8; RECORD]| record[0] > 1 && !vote::is_contested(*record);
+    let fixed: Vec<&[u8; RECORD]> = records.iter().filter(is_fixed).collect();
+    fixed.iter().for_each(|record| alike(trial, random, record));
+    println!("book: {} fixed records on which the orders agree, under both tags", fixed.len());
+}
+
+/// Each command on a record of which a person says whether it is acceptable.
+fn told(trial: &mut Trial, random: &mut Random, record: &[u8; RECORD], is_good: bool) {
+    assert_eq!(is_acceptable(record), is_good, "{}", hex(record));
+    let mut book = zeroed();
+    book[..RECORD].copy_from_slice(record);
+    each_on(trial, random, &book, 0);
+}
+
+/// Both partial candidates in each way: the answers are also held to those worked out by hand.
+fn contests_by_hand(trial: &mut Trial) {
+    for contest in contests() {
+        trial.begin(&zeroed());
+        for (entry, given) in contest {
+            assert_eq!(give(rust_command, &mut trial.rust.clone(), &entry), given, "a contest: {}", hex(&entry));
+            if !trial.both(entry) {
+                break;
+            }
+        }
+    }
+}
+
+/// Entries that could be refused for two reasons, records that break one condition, records under each tag, and windows
+/// of the greatest prices.
 fn by_hand(trial: &mut Trial, random: &mut Random) {
     let (book, entries) = orders();
     for (entry, number) in entries {
@@ -241,12 +343,10 @@ fn by_hand(trial: &mut Trial, random: &mut Random) {
         book[..RECORD].copy_from_slice(&record);
         each_on(trial, random, &book, 0);
     }
-    for (record, is_good) in moved_prices() {
-        assert_eq!(is_acceptable(&record), is_good, "{}", hex(&record));
-        let mut book = zeroed();
-        book[..RECORD].copy_from_slice(&record);
-        each_on(trial, random, &book, 0);
+    for (record, is_good) in moved_prices().into_iter().chain(tags()) {
+        told(trial, random, &record, is_good);
     }
+    contests_by_hand(trial);
     for entries in full_windows() {
         trial.begin(&zeroed());
         for (entry, code) in entries {
@@ -279,12 +379,16 @@ pub fn compare(random: &mut Random) -> bool {
     println!("book: {count} records of {kinds} kinds damaged, of {} kinds that there are", Kept::KINDS);
     records.extend((0..40).map(|_| planted(random)));
     damaged(&mut trial, random, &records);
+    wrong_tags(&mut trial, random, 2_000);
+    all_alike(&mut trial, random, &records);
     by_hand(&mut trial, random);
     other_lengths(&mut trial, random, &records);
     println!(
         "book: {} commands tried, {} different; {} on acceptable records, {} on others",
         trial.tried, trial.different, trial.records[0], trial.records[1]
     );
+    let [own, changed] = trial.decisions;
+    println!("book: {own} decisions on open series held to the core's own, {changed} that the vote changes");
     println!("book: settled by the chain, by the high half of its total: {:?}", trial.by_chain);
     let saw_all = trial.seen.report(|_| 1) && trial.by_chain.iter().all(|n| *n > 0);
     saw_all && kinds == Kept::KINDS && trial.different == 0

@@ -1,14 +1,17 @@
 //! Writes a sample of journals with the Rust's answers to a file, for crates/book_trials to replay; README.md has its
 //! format.
+use super::acceptable::is_acceptable;
 use super::book::{BOOK, OLD_BOOK, RECORD, rust_command};
-use super::by_hand::{EXPIRY, MAX_CONF_BPS, TERMS, damaged_records, full_windows, moved_prices, orders, print};
+use super::by_hand::{
+    EXPIRY, MAX_CONF_BPS, TERMS, contests, damaged_records, few_tags, full_windows, moved_prices, orders, print,
+};
 use super::journals::{
     Mood, ask_entry, change_field, each_command, fields, fix_entry, next, offer_entry, open_entry, planted,
     withdraw_entry, zeroed,
 };
 use super::kinds::{Seen, kind, own_record};
 use super::slots::Past;
-use super::{BEFORE, Given, Random, give};
+use super::{BEFORE, Given, Random, give, vote};
 
 /// A journal: the book at its start, and the entries with their answers.
 struct Journal {
@@ -33,6 +36,7 @@ impl Journal {
         self.kinds.push(kind(before.as_deref(), &entry, given));
         if let Some(record) = before {
             self.kinds.extend(self.past.marks(&record, &entry, given).iter().map(|mark| mark.to_string()));
+            self.kinds.extend(vote::marks(&record, &entry, is_acceptable(&record)));
         }
         self.entries.push(entry);
         self.answers.push(given);
@@ -157,6 +161,32 @@ fn damaged_by_hand(sample: &mut Sample) {
     }
 }
 
+/// Both partial candidates in each way, with the answers worked out by hand.
+fn contests_by_hand(sample: &mut Sample) {
+    for some in contests().chunks(8) {
+        let mut journal = Journal::on(zeroed());
+        for (entry, given) in some.iter().flatten() {
+            assert_eq!(journal.give(entry.clone()), *given, "a contest");
+        }
+        sample.keep(&journal);
+    }
+}
+
+/// Records under each tag, with one command of each kind on each.
+fn tags_by_hand(random: &mut Random, sample: &mut Sample) {
+    for some in few_tags().chunks(12) {
+        let mut book = zeroed();
+        book.chunks_mut(RECORD).zip(some).for_each(|(place, (record, _))| place.copy_from_slice(record));
+        let mut journal = Journal::on(book);
+        for (series, (_, is_good)) in some.iter().enumerate() {
+            for entry in each_command(random, &journal.book, series as u8) {
+                assert_eq!(journal.give(entry).0 != 11, *is_good, "a record under a tag");
+            }
+        }
+        sample.keep(&journal);
+    }
+}
+
 /// A journal of hostile entries on this book.
 fn hostile(random: &mut Random, book: Vec<u8>, commands: usize) -> Journal {
     let mut journal = Journal::on(book);
@@ -215,6 +245,8 @@ pub fn record(path: &str, random: &mut Random) -> bool {
     other_lengths(random, &mut sample);
     full_by_hand(&mut sample);
     damaged_by_hand(&mut sample);
+    contests_by_hand(&mut sample);
+    tags_by_hand(random, &mut sample);
     damaged(random, &mut sample);
     // Journals that have much of what is short come first.
     for least in [16, 12, 8, 4, 2, 1] {

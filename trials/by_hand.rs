@@ -1,8 +1,10 @@
-//! What chance rarely brings: records that break one condition of 01's and #103's and keep the rest, entries that could
-//! be refused for two reasons at once, and windows whose every price is the greatest.
+//! What chance rarely brings: records that break one condition of 01's, #103's and #109's and keep the rest, entries
+//! that could be refused for two reasons at once, windows whose every price is the greatest, and each way in which a
+//! partial chain and a partial window with more prints can stand.
 use super::book::{Answer, RECORD, SLOT_PRICES, SLOTS, command};
 use super::journals::{Offer, ask_entry, fix_entry, offer_entry, open_entry, withdraw_entry, zeroed};
 use super::record::Terms;
+use super::{BEFORE, Given};
 
 /// 01's terms and expiry.
 pub const TERMS: Terms = (40, 10, 2, 2, 2, 5, 60, 100, -2);
@@ -23,10 +25,15 @@ const FALLBACK: (i64, i64) = (963, 959);
 
 /// The record that these prints leave, fixed at this time if there is one.
 fn record(terms: Terms, prints: &[(i64, i64)], fixed: Option<i64>) -> [u8; RECORD] {
-    let mut book = zeroed();
     let mut entries = vec![open_entry(0, terms, MAX_CONF_BPS, EXPIRY)];
     entries.extend(prints.iter().map(|(published, prev)| offer_entry(0, print(1003, 200_003, *published, *prev))));
     entries.extend(fixed.map(|now| fix_entry(0, now)));
+    left(entries)
+}
+
+/// The record that these entries leave in series 0; none of them is refused.
+fn left(entries: Vec<Vec<u8>>) -> [u8; RECORD] {
+    let mut book = zeroed();
     for entry in entries {
         let answer = command(&mut book, &entry);
         assert!(!matches!(answer, Answer::Refused(_)), "{answer:?}");
@@ -38,11 +45,12 @@ fn record(terms: Terms, prints: &[(i64, i64)], fixed: Option<i64>) -> [u8; RECOR
 
 /// An offset, a width and the number put there, in a record with k = 3, slots 0 and 3, two links and a fallback. Each
 /// breaks one condition, but for a few that just do not.
-const OPEN_CHANGES: [(usize, usize, u64); 56] = [
+const OPEN_CHANGES: [(usize, usize, u64); 57] = [
     // The tag.
     (0, 1, 0),
     (0, 1, 2),
     (0, 1, 3),
+    (0, 1, 4),
     (0, 1, 255),
     // The terms.
     (16, 4, 0),
@@ -102,9 +110,13 @@ const OPEN_CHANGES: [(usize, usize, u64); 56] = [
     (192, 8, 1),
 ];
 
-/// An offset, a width and the number added there, in a record fixed at the first second at which it can be.
-const FIXED_CHANGES: [(usize, usize, u64); 11] = [
+/// An offset, a width and the number added there, in a record fixed at the first second at which it can be. The tag 3
+/// becomes 4, 5, 255, 1 and 2; under 2 the record is good, since the orders agree on it.
+const FIXED_CHANGES: [(usize, usize, u64); 14] = [
     (0, 1, 1),
+    (0, 1, 2),
+    (0, 1, 252),
+    (0, 1, 254),
     (0, 1, 255),
     (10, 2, 1),
     (10, 2, 0xffff),
@@ -163,7 +175,7 @@ fn changed(record: &[u8; RECORD], at: usize, width: usize, to: u64) -> [u8; RECO
     copy
 }
 
-/// A record fixed by each method, and a void one.
+/// A record fixed by each method, and a void one. The vote changes none of them; the third is a tie.
 pub fn fixed_records() -> [[u8; RECORD]; 6] {
     [
         record(TERMS, &[SLOT_0, SLOT_3], Some(1008)),
@@ -233,21 +245,141 @@ fn full_window(order: fn(u8) -> u8) -> Vec<(Vec<u8>, u8)> {
     entries
 }
 
-/// The series of the book of `orders`: one open, one fixed, one empty, one not acceptable, and one whose window starts
-/// before the first second that there is.
+// ---- the vote
+
+/// 01's terms, with a minimum that two slots do not reach.
+const VOTED_TERMS: Terms = (40, 10, 2, 3, 2, 5, 60, 100, -2);
+
+/// How a partial candidate stands at 1105, which is H + D.
+#[derive(Clone, Copy, PartialEq)]
+enum Stand {
+    Settles,
+    Waits,
+    NoTime,
+    NoPrice,
+}
+
+impl Stand {
+    const ALL: [Self; 4] = [Self::Settles, Self::Waits, Self::NoTime, Self::NoPrice];
+
+    /// When its prints are taken: it waits until 1110 + 5, and the last second + 5 does not fit.
+    fn now(self) -> i64 {
+        match self {
+            Self::Settles | Self::NoPrice => 1003,
+            Self::Waits => 1110,
+            Self::NoTime => i64::MAX,
+        }
+    }
+
+    /// The price of a print: this one, or the greatest, which is too dear at the exponent −2.
+    fn price(self, usual: i64) -> i64 {
+        if self == Self::NoPrice { GREATEST } else { usual }
+    }
+}
+
+/// An opening, prints for two slots, and one for a link.
+fn contested(series: u8, window: Stand, chain: Stand) -> Vec<Vec<u8>> {
+    let offer = |stand: Stand, price: i64, (published, prev): (i64, i64)| {
+        offer_entry(series, print(stand.now(), stand.price(price), published, prev))
+    };
+    vec![
+        open_entry(series, VOTED_TERMS, MAX_CONF_BPS, EXPIRY),
+        offer(window, 200_000, SLOT_0),
+        offer(window, 200_003, SLOT_3),
+        offer(chain, 200_100, LINK_0),
+    ]
+}
+
+/// The outcome of each candidate alone, as method, price and samples.
+const BY_CHAIN: (u8, u64, u16) = (2, 2_001_000_000, 1);
+const BY_WINDOW: (u8, u64, u16) = (3, 2_000_015_000, 2);
+
+/// The same with asks and a fix, and the answers: with two slots against one link they follow the window alone.
+fn contest(series: u8, window: Stand, chain: Stand) -> Vec<(Vec<u8>, Given)> {
+    let none = [BEFORE; 3];
+    let wait = |until: u64| (253, [until, BEFORE, BEFORE]);
+    let settled = (252, [3, 2_000_015_000, 2]);
+    let answers = match window {
+        Stand::Settles => [wait(1105), settled, settled, settled],
+        Stand::Waits => [wait(1115), wait(1115), (39, none), wait(1115)],
+        Stand::NoTime => [(0, none); 4],
+        Stand::NoPrice => [wait(1105), (0, none), (0, none), (0, none)],
+    };
+    let used = [(255, none), (254, [0, 255, 1]), (254, [3, 255, 1]), (254, [255, 0, 0])];
+    let asked = [ask_entry(series, 1104), ask_entry(series, 1105), fix_entry(series, 1105), ask_entry(series, 1106)];
+    let entries = contested(series, window, chain).into_iter().chain(asked);
+    entries.zip(used.into_iter().chain(answers)).collect()
+}
+
+/// Each of the 16 ways in which the two can stand, in a series of its own.
+pub fn contests() -> Vec<Vec<(Vec<u8>, Given)>> {
+    let ways = Stand::ALL.iter().flat_map(|window| Stand::ALL.map(|chain| (*window, chain)));
+    ways.enumerate().map(|(series, (window, chain))| contest(series as u8, window, chain)).collect()
+}
+
+/// These candidates fixed at 1105 under a tag with an outcome.
+fn fixed_under(tag: u8, outcome: (u8, u64, u16), window: Stand, chain: Stand) -> [u8; RECORD] {
+    let (method, price, samples) = outcome;
+    let mut record = left(contested(0, window, chain));
+    record = changed(&record, 0, 1, tag.into());
+    record = changed(&record, 10, 2, samples.into());
+    record = changed(&record, 36, 1, method.into());
+    record = changed(&record, 184, 8, 1105);
+    changed(&record, 192, 8, price)
+}
+
+/// Records fixed under each of these tags with either outcome, and whether each is acceptable: by the chain under tag
+/// 2, by the window under tag 3.
+fn contested_tags(tags: &[u8], stands: &[Stand]) -> Vec<([u8; RECORD], bool)> {
+    let mut all = Vec::new();
+    for window in stands {
+        for chain in stands {
+            for tag in tags {
+                let is_chain = *tag == 2 && *chain == Stand::Settles;
+                let is_window = *tag == 3 && *window == Stand::Settles;
+                all.push((fixed_under(*tag, BY_CHAIN, *window, *chain), is_chain));
+                all.push((fixed_under(*tag, BY_WINDOW, *window, *chain), is_window));
+            }
+        }
+    }
+    all
+}
+
+/// Records that the vote does not touch, under each of these tags: acceptable under 2 and under 3.
+fn plain_tags(tags: &[u8]) -> Vec<([u8; RECORD], bool)> {
+    let under = |tag: &u8| fixed_records().map(|record| (changed(&record, 0, 1, (*tag).into()), matches!(tag, 2 | 3)));
+    tags.iter().flat_map(under).collect()
+}
+
+/// Records under all kinds of tags, and whether each is acceptable.
+pub fn tags() -> Vec<([u8; RECORD], bool)> {
+    let tags = [2, 3, 4, 5, 6, 7, 34, 35, 127, 128, 130, 131, 254, 255];
+    [contested_tags(&tags, &Stand::ALL), plain_tags(&tags)].concat()
+}
+
+/// Some of them, for the sample.
+pub fn few_tags() -> Vec<([u8; RECORD], bool)> {
+    [contested_tags(&[2, 3, 4], &Stand::ALL[..2]), plain_tags(&[2, 3, 4])].concat()
+}
+
+// ---- two reasons at once
+
+/// The series of the book of `orders`: one open, one fixed, one empty, one not acceptable, one whose window starts
+/// before the first second that there is, and one fixed by the old order.
 const OPEN: u8 = 0;
 const FIXED: u8 = 1;
 const EMPTY: u8 = 2;
 const BAD: u8 = 3;
 const EARLY: u8 = 4;
+const OLD: u8 = 5;
 
 /// A book, and entries that it could refuse for two reasons; each with the number of the first by 01's order.
 pub fn orders() -> (Vec<u8>, Vec<(Vec<u8>, u8)>) {
     let mut book = zeroed();
     command(&mut book, &open_entry(OPEN, TERMS, MAX_CONF_BPS, EXPIRY));
     command(&mut book, &open_entry(EARLY, TERMS, MAX_CONF_BPS, i64::MIN));
-    let records = [(FIXED, fixed_records()[0]), (BAD, changed(&fixed_records()[0], 0, 1, 3))];
-    for (series, record) in records {
+    for (series, tag) in [(FIXED, 3), (BAD, 4), (OLD, 2)] {
+        let record = changed(&fixed_records()[0], 0, 1, tag);
         book[usize::from(series) * RECORD..][..RECORD].copy_from_slice(&record);
     }
     let bad_terms = |series: u8| open_entry(series, (40, 7, 2, 2, 2, 5, 60, 100, -2), MAX_CONF_BPS, EXPIRY);
@@ -274,9 +406,11 @@ pub fn orders() -> (Vec<u8>, Vec<(Vec<u8>, u8)>) {
         (fix_entry(BAD, 0), 11),
         (bad_terms(OPEN), 36),
         (bad_terms(FIXED), 36),
+        (bad_terms(OLD), 36),
         (bad_terms(EMPTY), 12),
         (fix_entry(EMPTY, 0), 37),
         (fix_entry(FIXED, 0), 38),
+        (fix_entry(OLD, 0), 38),
         (offer_entry(OPEN, wrong_price), 13),
         (offer_entry(OPEN, wrong_exponent), 16),
         (offer_entry(OPEN, wide), 17),
@@ -290,12 +424,13 @@ pub fn orders() -> (Vec<u8>, Vec<(Vec<u8>, u8)>) {
         (withdraw_entry(OPEN, 0, 32), 40),
         (withdraw_entry(OPEN, 0, 255), 40),
     ];
-    // The fixed series has the slots 0 and 3 filled.
+    // The fixed series have the slots 0 and 3 filled.
     for slot in [0, 1, 4, 255] {
         entries.extend([
             (withdraw_entry(BAD, 0, slot), 11),
             (withdraw_entry(EMPTY, 0, slot), 37),
             (withdraw_entry(FIXED, 0, slot), 38),
+            (withdraw_entry(OLD, 0, slot), 38),
         ]);
     }
     for print in [wrong_price, wrong_exponent, wide, wrong_times] {
@@ -303,6 +438,7 @@ pub fn orders() -> (Vec<u8>, Vec<(Vec<u8>, u8)>) {
             (offer_entry(BAD, print), 11),
             (offer_entry(EMPTY, print), 37),
             (offer_entry(FIXED, print), 38),
+            (offer_entry(OLD, print), 38),
         ]);
     }
     (book, entries)

@@ -47,6 +47,14 @@ fn open(series: u8, expiry: i64, line: &'static str, why: &'static str) -> Step 
     Step { words: format!("open {series}, terms P, E {expiry}"), entry, line, why }
 }
 
+/// The same with a minimum of 3, so that two slots are not enough for Window.
+fn open_of_3(series: u8, line: &'static str, why: &'static str) -> Step {
+    let (window, slot, tolerance, _, k, delay, lookback, hard, exponent) = TERMS;
+    let terms = (window, slot, tolerance, 3, k, delay, lookback, hard, exponent);
+    let entry = open_entry(series, terms, MAX_CONF_BPS, EXPIRY);
+    Step { words: format!("open {series}, terms P but minimum 3, E {EXPIRY}"), entry, line, why }
+}
+
 fn offer(series: u8, now: i64, price: i64, published: i64, prev: i64, line: &'static str, why: &'static str) -> Step {
     offer_with(series, print(now, price, published, prev), "", line, why)
 }
@@ -161,11 +169,12 @@ fn partial_next_print() -> Example {
         ask(3, 1100, "wait 3 1105", "from max(1100, 1003) + 5"),
         offer(4, 1102, 200_200, 1001, 1000, "used 4 - 0 0", "a link that comes after H"),
         fix(3, 1104, "refused 39", "one second early"),
-        fix(3, 1105, "settle 3 2 2001000000 1", "the link goes before the slot"),
+        fix(3, 1105, "settle 3 2 2001000000 1", "one link, one slot: the slots are not more, so the link goes first"),
         ask(4, 1105, "wait 4 1107", "from max(1100, 1102) + 5"),
         fix(4, 1107, "settle 4 2 2002000000 1", ""),
     ];
-    let about = "PartialNextPrint, method 2: fewer links than k, from the hard deadline H = E + 100 on.";
+    let about = "PartialNextPrint, method 2: fewer links than k and no more slots than links, from the hard deadline \
+                 H = E + 100 on.";
     Example { name: "partial_next_print", about, steps }
 }
 
@@ -180,7 +189,7 @@ fn partial_window() -> Example {
         ask(3, 1100, "wait 3 1105", "from max(1100, 962) + 5"),
         fix(3, 1105, "settle 3 3 2000000000 1", "the slot goes before the newer fallback"),
     ];
-    let about = "PartialWindow, method 3: no links, and fewer slots than the minimum.";
+    let about = "PartialWindow, method 3: fewer slots than the minimum, and no link.";
     Example { name: "partial_window", about, steps }
 }
 
@@ -268,7 +277,7 @@ fn hostile_day() -> Example {
         open(4, 2000, "opened 4", ""),
         offer(4, 2003, 200_100, 2001, 1990, "used 4 - 0 0", ""),
         offer(4, 2104, 150_000, 1962, 1959, "used 4 0 - 1", "a slot filled after H = 2100"),
-        ask(4, 2104, "wait 4 2105", "the link goes first: from max(2100, 2003) + 5, not prolonged by the slot"),
+        ask(4, 2104, "wait 4 2105", "a tie, the link goes first: from max(2100, 2003) + 5, not prolonged by the slot"),
         fix(4, 2105, "settle 4 2 2001000000 1", ""),
         open(63, i64::MAX, "opened 63", "the last second that there is, 2^63 − 1"),
         offer(63, 2106, 200_000, 2106, 2105, "refused 14", "long before E − lookback"),
@@ -363,7 +372,46 @@ fn challenged() -> Example {
     Example { name: "withdraw", about, steps }
 }
 
-pub fn examples() -> [Example; 10] {
+fn voted() -> Example {
+    let steps = vec![
+        open_of_3(3, "opened 3", "2 slots are not enough for Window"),
+        offer(3, 962, 200_000, 962, 959, "used 3 0 - 1", ""),
+        offer(3, 1003, 210_000, 1001, 1000, "used 3 - 0 0", "1 link of k = 2"),
+        ask(3, 1100, "wait 3 1105", "H, with 1 slot and 1 link: the chain's turn, from max(1100, 1003) + 5"),
+        offer(3, 1102, 200_003, 990, 989, "used 3 3 - 1", "a second slot, after H"),
+        ask(3, 1104, "wait 3 1107", "2 slots, 1 link: the window's turn, from max(1100, 1102) + 5"),
+        ask(3, 1105, "wait 3 1107", "the link's time has come, but it is not its turn"),
+        fix(3, 1106, "refused 39", "one second early"),
+        fix(3, 1107, "settle 3 3 2000015000 2", "the mean of the slots, 200000 and 200003, without the link"),
+        ask(3, 1108, "settle 3 3 2000015000 2", "the stored outcome"),
+        open(4, EXPIRY, "opened 4", ""),
+        offer(4, 962, 200_000, 962, 959, "used 4 0 - 1", "1 slot of the minimum 2"),
+        offer(4, 1003, 210_000, 1001, 1000, "used 4 - 0 0", "1 link of k = 2: a tie"),
+        ask(4, 1104, "wait 4 1105", "a tie is the chain's: from max(1100, 1003) + 5"),
+        fix(4, 1105, "settle 4 2 2100000000 1", "the link alone"),
+        ask(4, 1106, "settle 4 2 2100000000 1", "the stored outcome"),
+        open_of_3(5, "opened 5", ""),
+        offer(5, 962, 200_000, 962, 959, "used 5 0 - 1", ""),
+        offer(5, 991, 200_003, 990, 989, "used 5 3 - 1", ""),
+        offer(5, 1106, 210_000, 1001, 1000, "used 5 - 0 0", "a link that comes late"),
+        ask(5, 1106, "settle 5 3 2000015000 2", "2 slots, 1 link: from max(1100, 991) + 5, not prolonged by the link"),
+        withdraw(5, 1107, 3, "done", "now 1 slot and 1 link"),
+        ask(5, 1107, "wait 5 1111", "a tie: the chain's turn, from max(1100, 1106) + 5"),
+        fix(5, 1111, "settle 5 2 2100000000 1", ""),
+        open_of_3(6, "opened 6", ""),
+        offer(6, 962, 200_000, 962, 959, "used 6 0 - 1", ""),
+        offer(6, i64::MAX, 200_003, 990, 989, "used 6 3 - 1", "taken at the last second that there is, 2^63 − 1"),
+        offer(6, 1003, 210_000, 1001, 1000, "used 6 - 0 0", ""),
+        ask(6, 1105, "refused 0", "2 slots, 1 link: max(1100, 2^63 − 1) + 5 does not fit, though the link's 1105 does"),
+        withdraw(6, 1105, 3, "done", "now 1 slot and 1 link"),
+        fix(6, 1105, "settle 6 2 2100000000 1", "a tie: from max(1100, 1003) + 5"),
+    ];
+    let about = "Request #109: from H on, where neither Window nor NextPrint applies, it is the window's turn while more \
+                 slots are filled than there are links, and else the chain's.";
+    Example { name: "voted", about, steps }
+}
+
+pub fn examples() -> [Example; 11] {
     [
         paper(),
         window(),
@@ -375,6 +423,7 @@ pub fn examples() -> [Example; 10] {
         hostile_day(),
         before_1970(),
         challenged(),
+        voted(),
     ]
 }
 

@@ -1,5 +1,5 @@
 //! Hostile journals: each entry is chosen by what the book holds, at the few seconds where an answer changes.
-use super::book::{BOOK, OFFER_WIDTH, RECORD, SLOT_PRICES, SLOTS, Series, put_slot_price};
+use super::book::{BOOK, OFFER_WIDTH, Order, RECORD, SLOT_PRICES, SLOTS, Series, put_slot_price};
 use super::record::{self, TERMS, Terms, params, terms_bytes};
 use super::{BPS, Random, TIMES, confidences};
 use metalbook_core::UnixTimestamp;
@@ -141,8 +141,20 @@ pub struct Mood {
     is_dear: bool,
 }
 
-const AIMS: [[u64; 4]; 8] =
-    [[9, 1, 1, 1], [9, 0, 1, 0], [1, 9, 1, 1], [0, 9, 1, 0], [0, 0, 9, 1], [1, 1, 6, 0], [3, 3, 3, 3], [0, 0, 0, 9]];
+const AIMS: [[u64; 4]; 11] = [
+    [9, 1, 1, 1],
+    [9, 0, 1, 0],
+    [1, 9, 1, 1],
+    [0, 9, 1, 0],
+    [0, 0, 9, 1],
+    [1, 1, 6, 0],
+    [3, 3, 3, 3],
+    [0, 0, 0, 9],
+    // Window and chain beside each other.
+    [8, 3, 0, 0],
+    [6, 3, 1, 0],
+    [4, 4, 0, 0],
+];
 
 impl Mood {
     pub fn new(random: &mut Random) -> Self {
@@ -399,8 +411,8 @@ fn all_slot_prices(random: &mut Random, sum: u128, bits: u32) -> [u64; SLOTS] {
     all
 }
 
-/// An acceptable record, open or fixed, that a list of prints need not leave: the state is any that `restore` takes
-/// with slot prices for its sum.
+/// An acceptable record, open or fixed by either order, that a list of prints need not leave: the state is any that
+/// `restore` takes with slot prices for its sum.
 pub fn planted(random: &mut Random) -> [u8; RECORD] {
     let mut s = record::series(random);
     let prices = all_slot_prices(random, s.parts.sample_sum, s.parts.filled_slots);
@@ -408,7 +420,8 @@ pub fn planted(random: &mut Random) -> [u8; RECORD] {
     let max_conf_bps = random.pick(&BPS);
     let series = Series { params: s.terms, max_conf_bps, expiry: UnixTimestamp::new(s.expiry), state: s.state() };
     let mut bytes = [0; RECORD];
-    if random.below(2) == 0 || series.write_fixed(&mut bytes, record::asked(random, &s)).is_err() {
+    let order = random.pick(&[Order::Old, Order::Voted]);
+    if random.below(2) == 0 || series.write_fixed(&mut bytes, order, record::asked(random, &s)).is_err() {
         series.write_open(&mut bytes);
     }
     prices.iter().enumerate().for_each(|(slot, price)| put_slot_price(&mut bytes, slot, *price));

@@ -1,12 +1,13 @@
 //! The kinds of answers that a command can give, and what else is counted: each must be seen when the sides are compared,
 //! and be in the sample.
-use super::Given;
 use super::book::{
     ASK_WIDTH, Answer, BOOK, OFFER_WIDTH, OPEN_WIDTH, RECORD, SLOT_PRICES, SLOTS, WITHDRAW_WIDTH, command,
 };
+use super::{Given, vote};
+use std::collections::BTreeMap;
 
-/// Every kind, and how many of it the sample has at least.
-pub const KINDS: [(&str, u32); 81] = [
+/// Every kind but those that `vote` counts, and how many of it the sample has at least.
+const KINDS: [(&str, u32); 81] = [
     ("refused 35", 20),
     ("refused 33: empty", 6),
     ("refused 32", 10),
@@ -119,10 +120,15 @@ fn is_time(record: &[u8], entry: &[u8]) -> bool {
     command(&mut book, entry) == Answer::Refused(0)
 }
 
+/// Whether an acceptable record is of a fixed series, by either order.
+fn is_fixed(record: &[u8]) -> bool {
+    record[0] > 1
+}
+
 /// The refusal's number, and why where one number has several reasons.
 fn refused(record: &[u8], entry: &[u8], number: u8) -> String {
     let why = match (number, entry[0]) {
-        (36, _) => [": open", ": fixed"][usize::from(record[0] == 2)],
+        (36, _) => [": open", ": fixed"][usize::from(is_fixed(record))],
         (13, _) => [": the times", ": the price"][usize::from(i64_at(entry, 10) <= 0)],
         (40, _) => [": below 32", ": 32 or above"][usize::from(entry[10] >= SLOTS as u8)],
         // With an offer it is always a time: 32 prices can't reach 2^128.
@@ -169,7 +175,7 @@ pub fn kind(record: Option<&[u8]>, entry: &[u8], given: Given) -> String {
         250 => "Done".into(),
         _ => refused(record, entry, code),
     };
-    let when = if entry[0] == 3 && record[0] == 2 && code > 250 { " when fixed" } else { "" };
+    let when = if entry[0] == 3 && is_fixed(record) && code > 250 { " when fixed" } else { "" };
     format!("{name}{when} {answer}")
 }
 
@@ -188,23 +194,38 @@ pub fn own_record<'a>(book: &'a [u8], entry: &[u8]) -> Option<&'a [u8]> {
     if entry.len() == width && book.len() == BOOK { book.get(at..at + RECORD) } else { None }
 }
 
-/// How often each kind was seen.
-pub struct Seen([u64; KINDS.len()]);
+/// How many of a kind the sample has at least, and how often it was seen.
+#[derive(Clone, Copy)]
+struct Count {
+    least: u32,
+    seen: u64,
+}
+
+/// All kinds in their order, and the count of each.
+pub struct Seen {
+    names: Vec<String>,
+    counts: BTreeMap<String, Count>,
+}
 
 impl Seen {
     pub fn new() -> Self {
-        Self([0; KINDS.len()])
+        let plain = KINDS.iter().map(|(name, least)| (name.to_string(), *least));
+        let kinds: Vec<(String, u32)> = plain.chain(vote::kinds()).collect();
+        let names = kinds.iter().map(|kind| kind.0.clone()).collect();
+        let counts = kinds.into_iter().map(|(name, least)| (name, Count { least, seen: 0 })).collect();
+        Self { names, counts }
     }
 
     pub fn add(&mut self, kind: &str) {
-        self.0[index(kind)] += 1;
+        self.counts.get_mut(kind).unwrap_or_else(|| panic!("no kind of answer: {kind}")).seen += 1;
     }
 
     /// Prints the counts, and says whether each kind was seen as often as wanted.
     pub fn report(&self, wanted: impl Fn(u32) -> u64) -> bool {
         let mut good = true;
-        for ((name, least), seen) in KINDS.iter().zip(self.0) {
-            let is_short = seen < wanted(*least);
+        for name in &self.names {
+            let Count { least, seen } = self.counts[name];
+            let is_short = seen < wanted(least);
             println!("{seen:9} {name}{}", if is_short { "   TOO FEW" } else { "" });
             good &= !is_short;
         }
@@ -213,11 +234,7 @@ impl Seen {
 
     /// Whether there are fewer of this kind than the sample has at least.
     pub fn wants(&self, kind: &str) -> bool {
-        let at = index(kind);
-        self.0[at] < u64::from(KINDS[at].1)
+        let Count { least, seen } = self.counts[kind];
+        seen < u64::from(least)
     }
-}
-
-fn index(kind: &str) -> usize {
-    KINDS.iter().position(|k| k.0 == kind).unwrap_or_else(|| panic!("no kind of answer: {kind}"))
 }

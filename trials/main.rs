@@ -13,6 +13,7 @@ mod long;
 mod record;
 mod sheet_compare;
 mod slots;
+mod vote;
 
 use metalbook_core::{accept_print, to_atoms};
 use std::collections::BTreeMap;

@@ -1,9 +1,9 @@
 //! Writes a sample of the Rust core's answers to a file, for crates/core_trials to replay; README.md has its format.
-use super::{BPS, PRICES, Random, TIMES, confidences};
+use super::{BPS, PRICES, Random, TIMES, confidences, vote};
 use metalbook_core::*;
 use std::collections::BTreeSet;
 
-/// Every kind of answer, and how many records of it the sample has.
+/// Every kind of answer but the contests of #109, and how many records of it the sample has.
 const WANTED: [(&str, u32); 72] = [
     ("mean value", 120),
     ("mean refused 0", 80),
@@ -79,12 +79,24 @@ const WANTED: [(&str, u32); 72] = [
     ("method refused 1", 20),
 ];
 
+/// How many records the sample has of each kind of contest between a partial chain and a partial window.
+const OF_EACH_CONTEST: u32 = 6;
+
+fn wanted() -> Vec<(String, u32)> {
+    let plain = WANTED.iter().map(|(label, wanted)| (label.to_string(), *wanted));
+    let contests = vote::contests().into_iter().map(|contest| (format!("decide {contest}"), OF_EACH_CONTEST));
+    plain.chain(contests).collect()
+}
+
 /// The numbers of terms, in the order of `OracleParams::try_new`.
 pub type Terms = (u32, u32, u16, u16, u8, u32, u32, u32, i8);
 
 /// Terms with every number at its least and at its greatest, and ordinary ones.
-pub const TERMS: [Terms; 12] = [
+pub const TERMS: [Terms; 14] = [
     (40, 10, 2, 2, 2, 5, 60, 100, -2),
+    // The least minimum and k with which a partial window can have more prints than a partial chain.
+    (40, 10, 2, 3, 2, 5, 60, 100, -2),
+    (70, 10, 4, 6, 5, 5, 70, 100, -3),
     (40, 10, 9, 4, 3, 5, 40, 41, -6),
     (30, 10, 0, 3, 5, 7, 20, 31, -8),
     (1, 1, 0, 1, 1, 1, 1, 2, 0),
@@ -139,18 +151,20 @@ impl Series {
 struct Sample {
     bytes: Vec<u8>,
     known: BTreeSet<Vec<u8>>,
-    seen: [u32; WANTED.len()],
+    wanted: Vec<(String, u32)>,
+    seen: Vec<u32>,
 }
 
 impl Sample {
     fn new() -> Self {
-        Self { bytes: Vec::new(), known: BTreeSet::new(), seen: [0; WANTED.len()] }
+        let wanted = wanted();
+        Self { bytes: Vec::new(), known: BTreeSet::new(), seen: vec![0; wanted.len()], wanted }
     }
 
     /// Keeps a record unless it is there already, or there are enough of its kind.
     fn keep(&mut self, label: &str, record: Vec<u8>) {
-        let at = WANTED.iter().position(|w| w.0 == label).unwrap_or_else(|| panic!("no kind of answer: {label}"));
-        if self.seen[at] < WANTED[at].1 && self.known.insert(record.clone()) {
+        let at = self.wanted.iter().position(|w| w.0 == label).unwrap_or_else(|| panic!("no kind of answer: {label}"));
+        if self.seen[at] < self.wanted[at].1 && self.known.insert(record.clone()) {
             self.seen[at] += 1;
             self.bytes.extend(record);
         }
@@ -158,7 +172,7 @@ impl Sample {
 
     /// Whether there are enough of every kind that starts so.
     fn is_full(&self, call: &str) -> bool {
-        WANTED.iter().zip(self.seen).all(|((label, wanted), seen)| !label.starts_with(call) || *wanted <= seen)
+        self.wanted.iter().zip(&self.seen).all(|((label, wanted), seen)| !label.starts_with(call) || wanted <= seen)
     }
 
     /// Makes records until there are enough of each kind.
@@ -173,7 +187,7 @@ impl Sample {
 
     fn write(&self, path: &str) {
         let records: u32 = self.seen.iter().sum();
-        let mut file = b"LFCORE01".to_vec();
+        let mut file = b"LFCORE02".to_vec();
         file.extend(records.to_le_bytes());
         file.extend(&self.bytes);
         std::fs::write(path, &file).unwrap_or_else(|e| panic!("{path}: {e}"));
@@ -182,8 +196,8 @@ impl Sample {
 
     /// Prints how often each kind of answer was recorded, and says whether none is short.
     fn report(&self) -> bool {
-        for ((label, wanted), seen) in WANTED.iter().zip(self.seen) {
-            println!("{seen:4} {label}{}", if seen < *wanted { "   TOO FEW" } else { "" });
+        for ((label, wanted), seen) in self.wanted.iter().zip(&self.seen) {
+            println!("{seen:4} {label}{}", if seen < wanted { "   TOO FEW" } else { "" });
         }
         self.is_full("")
     }
@@ -591,14 +605,14 @@ pub fn asked(random: &mut Random, s: &Series) -> i64 {
 }
 
 /// The same candidates at the price 1, whose mean always fits.
-fn cheap(mut s: Series) -> Series {
+pub fn cheap(mut s: Series) -> Series {
     s.parts.sample_sum = s.parts.sample_sum.min(1);
     s.parts.next_prices = s.parts.next_prices.map(|p| p.min(1));
     s.parts.fallback_price = s.parts.fallback_price.min(1);
     s
 }
 
-fn decided(s: &Series, now: i64) -> Result<Decision, CoreError> {
+pub fn decided(s: &Series, now: i64) -> Result<Decision, CoreError> {
     s.state().decide(&s.terms, UnixTimestamp::new(s.expiry), now)
 }
 
@@ -636,6 +650,21 @@ fn outcome(s: &Series, now: i64, answer: Result<Decision, CoreError>) -> String 
     }
 }
 
+fn put_decision(to: &mut Vec<u8>, answer: Result<Decision, CoreError>) {
+    to.push(code(&answer));
+    let (kind, price, samples, until) = match answer {
+        Ok(Decision::Settle { method, price, samples }) => (method as u8, price.get(), samples, 0),
+        Ok(Decision::Void) => (SettleMethod::Void as u8, 0, 0, 0),
+        Ok(Decision::Wait { until }) => (6, 0, 0, until),
+        Err(_) => (0, 0, 0, 0),
+    };
+    to.push(kind);
+    to.extend(price.to_le_bytes());
+    to.extend(samples.to_le_bytes());
+    to.extend(until.to_le_bytes());
+}
+
+/// The decision by the old order, which is the core's own, and by the voted one.
 fn decide(random: &mut Random) -> (String, Vec<u8>) {
     let s = series(random);
     let now = asked(random, &s);
@@ -645,18 +674,9 @@ fn decide(random: &mut Random) -> (String, Vec<u8>) {
     put_parts(&mut record, &s.parts);
     record.extend(s.expiry.to_le_bytes());
     record.extend(now.to_le_bytes());
-    record.push(code(&answer));
-    let (kind, price, samples, until) = match answer {
-        Ok(Decision::Settle { method, price, samples }) => (method as u8, price.get(), samples, 0),
-        Ok(Decision::Void) => (SettleMethod::Void as u8, 0, 0, 0),
-        Ok(Decision::Wait { until }) => (6, 0, 0, until),
-        Err(_) => (0, 0, 0, 0),
-    };
-    record.push(kind);
-    record.extend(price.to_le_bytes());
-    record.extend(samples.to_le_bytes());
-    record.extend(until.to_le_bytes());
-    (outcome(&s, now, answer), record)
+    put_decision(&mut record, answer);
+    put_decision(&mut record, vote::voted(&s, now));
+    (vote::contest(&s, now).unwrap_or_else(|| outcome(&s, now, answer)), record)
 }
 
 // ---- constructors

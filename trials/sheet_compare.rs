@@ -1,9 +1,11 @@
 //! Compares the proved program `sheet` with the Rust's: the same journals, the same bytes written.
+use super::book::command;
 use super::examples::{examples, rust_sheet};
 use super::journals::{Mood, command_to, zeroed};
+use super::kinds::own_record;
 use super::lines::feed;
 use super::long::{day, hostile};
-use super::{Random, hex};
+use super::{Random, hex, vote};
 use std::collections::BTreeMap;
 use std::fs::File;
 use std::io::{Read, Write};
@@ -14,9 +16,10 @@ use std::sync::mpsc::{self, RecvTimeoutError};
 use std::thread;
 use std::time::{Duration, Instant};
 
-/// Every kind of line that a journal can have, by the command and the answer. 11, 35 and a print that is a link and
-/// something else too are not among them: no journal from a zeroed book comes to these.
-const KINDS: [&str; 48] = [
+/// Every kind of line that a journal can have, by the command and the answer, with those apart that are by the vote or
+/// with a tie (#109). 11, 35 and a print that is a link and something else too are not among them: no journal from a
+/// zeroed book comes to these.
+const KINDS: [&str; 62] = [
     "open opened",
     "open refused 34",
     "open refused 36",
@@ -54,6 +57,20 @@ const KINDS: [&str; 48] = [
     "fix refused 38",
     "fix refused 0",
     "fix refused 39",
+    "ask wait by the vote",
+    "ask settle 3 by the vote",
+    "ask settle 3 by the vote, fixed",
+    "ask refused 0 by the vote",
+    "fix settle 3 by the vote",
+    "fix refused 0 by the vote",
+    "fix refused 39 by the vote",
+    "ask wait with a tie",
+    "ask settle 2 with a tie",
+    "ask settle 2 with a tie, fixed",
+    "ask refused 0 with a tie",
+    "fix settle 2 with a tie",
+    "fix refused 0 with a tie",
+    "fix refused 39 with a tie",
     "withdraw done",
     "withdraw refused 34",
     "withdraw refused 37",
@@ -105,11 +122,13 @@ fn kind(entry: &[u8], line: &str) -> String {
     }
 }
 
-/// The entries of a journal that have a line.
-fn entries(mut journal: &[u8]) -> Vec<&[u8]> {
+/// The entries of a journal that have a line, each with what the vote has to do with it.
+fn entries(mut journal: &[u8]) -> Vec<(&[u8], &'static str)> {
     let mut all = Vec::new();
+    let mut before = zeroed();
     let keep = |entry, _| {
-        all.push(entry);
+        all.push((entry, own_record(&before, entry).map_or("", |record| vote::of_line(record, entry))));
+        command(&mut before, entry);
         Ok(())
     };
     feed(&mut zeroed(), &mut journal, true, keep).expect("nothing to fail");
@@ -169,14 +188,15 @@ impl Trial<'_> {
         let entries = entries(journal);
         let lines = |bytes: &[u8]| bytes.split_inclusive(|b| *b == b'\n').map(<[u8]>::to_vec).collect::<Vec<_>>();
         let (ours, rust) = (lines(ours), lines(rust));
-        for (i, entry) in entries.iter().enumerate() {
+        for (i, (entry, vote)) in entries.iter().enumerate() {
             let (mine, other) = (ours.get(i).map(Vec::as_slice), rust.get(i).map(Vec::as_slice));
             if mine != other || mine.is_none() {
                 let (mine, other) = (text(mine), text(other));
                 return Err(format!("command {} ({}): ours {mine}, Rust {other}", i + 1, hex(entry)));
             }
             let line = String::from_utf8_lossy(&ours[i]);
-            self.seen.entry(kind(entry, line.trim_end())).or_default()[group] += 1;
+            let kind = kind(entry, line.trim_end()) + vote;
+            self.seen.entry(kind).or_default()[group] += 1;
         }
         let end = entries.len();
         match (ours.get(end), rust.get(end)) {
@@ -198,7 +218,7 @@ impl Trial<'_> {
             let is_missing = match name {
                 _ if name.ends_with(" 32") || name.ends_with(" 33") => seen[SHORT] == 0,
                 // One book has 64 fixings at most.
-                _ if name.starts_with("fix settle") => seen[MANY] == 0,
+                _ if name.starts_with("fix settle") || name.ends_with("fixed") => seen[MANY] == 0,
                 _ => seen[ONE] == 0 || seen[MANY] == 0,
             };
             let mark = if is_missing { "   NOT SEEN" } else { "" };

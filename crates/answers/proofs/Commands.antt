@@ -9,6 +9,7 @@ use Rattle.rules.specs.Log.{if_then_else_}
 use Rattle.rules.specs.Bytes.{Bytes}
 use Rattle.rules.specs.Answers.{Result, ok, refused}
 use Rattle.rules.specs.Terms.{goodTerms}
+use Rattle.rules.specs.Decision.{Order, voted}
 use Rattle.rules.specs.State.{Parts, candidatesOf, partsOf, goodState, decideCall}
 use Rattle.rules.specs.Series.{Command, Opening, Holdings, Series, live}
 use Rattle.rules.specs.Record.{goodPrices, openingIn, partsIn, pricesIn, holdingsIn}
@@ -23,7 +24,7 @@ use Rattle.record_read.specs.Records.{Held, contentsFrom}
 use Rattle.record_test.specs.Statuses.{statusAs, statusIn, storedAt, decisionIn}
 use Rattle.book.proofs.Looks.{partAt, part-is, allowed-part}
 use Rattle.record_read.proofs.Records.{contents-looked}
-use Rattle.record_test.proofs.Statuses.{untested-priced, status-found, isRefused, not-refused, looked, decision-of}
+use Rattle.record_test.proofs.Statuses.{untested-priced, untested-voted, status-found, isRefused, not-refused, looked, decision-of}
 use Rattle.answers.specs.Commands.{Untested, answerAt, afterAt, bookAnswer}
 
 -- a decision is no refusal
@@ -87,7 +88,8 @@ module _ (book : Bytes) (s : ℕ) (h : Untested book s) where
   held-found k = let e = k ∙ contents-looked book s may-look in (λ i. tested (e i .opening) (e i .parts) (pricesIn bs)) ∙ open-found
 
   -- and the decision on it
-  pub part-decided : (now : ℤ) → decisionIn (partAt s book) now ≡ decideCall (openingIn bs .terms) (openingIn bs .expiry) (partsIn bs) now
+  pub part-decided : (now : ℤ) → decisionIn (partAt s book) now ≡ decideCall voted (openingIn bs .terms) (openingIn bs .expiry) (partsIn bs) now
   part-decided now =
       ap (λ (x : Bytes). decisionIn x now) (part-is s book)
       ∙ decision-of bs now (ap (λ (x : Bytes). length x) (sym (part-is s book)) ∙ allowed-part book s may-look)
+      ∙ ap (λ (r : Order). decideCall r (openingIn bs .terms) (openingIn bs .expiry) (partsIn bs) now) (untested-voted bs (sym (looked book s may-look) ∙ h))

@@ -7,19 +7,19 @@ use native.Mathlib.Omega.{arith}
 use lib.ListN.{length, take, drop, replicate, take-append-drop}
 use lib.Seq.{take-add, drop-drop}
 use lib.IntN.{ℤ, pos}
-use lib.Dec.{eqb}
+use lib.Dec.{leb, eqb}
 use borrow.Author.Tests.{eqb-true}
 use Rattle.rules.proofs.Bools.{both, every-at}
 use Rattle.rules.proofs.State.{parts-kept}
-use Rattle.rules.proofs.Record.{outcome-stands, written-read}
+use Rattle.rules.proofs.Record.{outcome-stands, written-read, order-tag}
 use Rattle.rules.proofs.Bytes.{drop-bytes, all-zero, field-back, word-signed, little-below}
 use Rattle.rules.proofs.SlotPrices.{prices-back}
 use Rattle.rules.specs.Log.{if_then_else_, every}
 use Rattle.rules.specs.Bytes.{Bytes, areBytes, zeros, allZero, concat, unsignedAt, signedAt, bytes, word, signedBytes}
 use Rattle.rules.specs.Answers.{ok, refused, method, Answer}
 use Rattle.rules.specs.State.{Parts, candidatesOf, partsOf, goodState}
-use Rattle.rules.specs.Series.{Opening, Series, empty, live, fixed, decided}
-use Rattle.rules.specs.Record.{recordSize, slotPricesAt, methodOf, samplesOf, priceOf, fields, priceBytes, bytesOf, outcome, openingIn, partsIn, pricesIn, holdingsIn, tagIn, samplesIn, methodIn, fixingTimeIn, priceIn, seriesIn, bodyTests, openTests, fixedTests, acceptable, stored}
+use Rattle.rules.specs.Series.{Opening, Series, empty, live, fixed, decidedBy}
+use Rattle.rules.specs.Record.{recordSize, slotPricesAt, methodOf, samplesOf, priceOf, fields, tagOf, priceBytes, bytesOf, outcome, openingIn, partsIn, pricesIn, holdingsIn, tagIn, samplesIn, methodIn, fixingTimeIn, priceIn, orderIn, seriesIn, bodyTests, openTests, fixedTests, acceptable, stored}
 use Rattle.claims.specs.OneForm.{isRecord, OneForm}
 use Rattle.claims.proofs.Book.{ledgers-stored}
 
@@ -123,17 +123,17 @@ module _ (bs : Bytes) (len : length bs ≡ recordSize) (are : areBytes bs ≡ tr
           (ap (bytes 8) (sym (eqb-true (priceIn bs) 0 (every-at (openTests bs) 3 h))) ∙ field 192 8 (omega arith)))
 
       abbrev d : Answer
-      d = decided o (candidatesOf s) (fixingTimeIn bs)
+      d = decidedBy (orderIn bs) o (candidatesOf s) (fixingTimeIn bs)
 
       abbrev a : Answer
       a = outcome (method (methodIn bs)) (priceIn bs) (samplesIn bs)
 
-      fixed-back : tagIn bs ≡ 2 → every (fixedTests bs) ≡ true → bytesOf (fixed o (holdingsIn bs) a (fixingTimeIn bs)) ≡ bs
+      fixed-back : tagIn bs ≡ tagOf (orderIn bs) → every (fixedTests bs) ≡ true → bytesOf (fixed (orderIn bs) o (holdingsIn bs) a (fixingTimeIn bs)) ≡ bs
       unfolding bytesOf
       fixed-back e h =
           let same = outcome-stands bs h in
           rw state-back
-          (rebuilt 2 (samplesOf a) (methodOf a) (fixingTimeIn bs) (priceOf a)
+          (rebuilt (tagOf (orderIn bs)) (samplesOf a) (methodOf a) (fixingTimeIn bs) (priceOf a)
           (ap (bytes 1) (sym e) ∙ field 0 1 (omega arith))
           (ap (bytes 2) (ap samplesOf same ∙ sym (eqb-true (samplesIn bs) (samplesOf d) (every-at (fixedTests bs) 1 h))) ∙ field 10 2 (omega arith))
           (ap (bytes 1) (ap methodOf same ∙ sym (eqb-true (methodIn bs) (methodOf d) (every-at (fixedTests bs) 2 h))) ∙ field 36 1 (omega arith))
@@ -149,11 +149,11 @@ module _ (bs : Bytes) (len : length bs ≡ recordSize) (are : areBytes bs ≡ tr
 
   acceptable-back : acceptable bs ≡ true → bytesOf (seriesIn bs) ≡ bs
   unfolding acceptable seriesIn
-  acceptable-back h = go (eqb (tagIn bs) 0) (eqb (tagIn bs) 1) (eqb (tagIn bs) 2) refl refl refl h
+  acceptable-back h = go (eqb (tagIn bs) 0) (eqb (tagIn bs) 1) (leb (tagIn bs) 3) refl refl refl h
     where
-      go : (x y z : Bool) → eqb (tagIn bs) 0 ≡ x → eqb (tagIn bs) 1 ≡ y → eqb (tagIn bs) 2 ≡ z
+      go : (x y z : Bool) → eqb (tagIn bs) 0 ≡ x → eqb (tagIn bs) 1 ≡ y → leb (tagIn bs) 3 ≡ z
           → (if x then allZero bs else if y then every (bodyTests bs) && every (openTests bs) else if z then every (bodyTests bs) && every (fixedTests bs) else false) ≡ true
-          → bytesOf (if x then empty else if y then live o (holdingsIn bs) else fixed o (holdingsIn bs) (outcome (method (methodIn bs)) (priceIn bs) (samplesIn bs)) (fixingTimeIn bs)) ≡ bs
+          → bytesOf (if x then empty else if y then live o (holdingsIn bs) else fixed (orderIn bs) o (holdingsIn bs) (outcome (method (methodIn bs)) (priceIn bs) (samplesIn bs)) (fixingTimeIn bs)) ≡ bs
       go true y z ex ey ez h = empty-back h
         where
           empty-back : allZero bs ≡ true → bytesOf empty ≡ bs
@@ -161,8 +161,8 @@ module _ (bs : Bytes) (len : length bs ≡ recordSize) (are : areBytes bs ≡ tr
       go false true z ex ey ez h =
           body-back (live o (holdingsIn bs)) (openTests bs) h (λ good pad tests. live-back good pad (eqb-true (tagIn bs) 1 ey) tests)
       go false false true ex ey ez h =
-          body-back (fixed o (holdingsIn bs) (outcome (method (methodIn bs)) (priceIn bs) (samplesIn bs)) (fixingTimeIn bs)) (fixedTests bs) h
-          (λ good pad tests. fixed-back good pad (eqb-true (tagIn bs) 2 ez) tests)
+          body-back (fixed (orderIn bs) o (holdingsIn bs) (outcome (method (methodIn bs)) (priceIn bs) (samplesIn bs)) (fixingTimeIn bs)) (fixedTests bs) h
+          (λ good pad tests. fixed-back good pad (order-tag bs ex ey ez) tests)
       go false false false ex ey ez h = cc
 
 -- ---- the claim

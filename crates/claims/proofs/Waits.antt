@@ -97,11 +97,11 @@ refused-kept (live o c) (Offer q now) h = offered-kept o c now (accept (o .terms
 refused-kept (live o c) (Ask now) h = refl
 refused-kept (live o c) (Fix now) h = fixing-kept o c now (decided o (c .candidates) now) h
 refused-kept (live o c) (Withdraw now i) h = withdrawing-kept o c now i h
-refused-kept (fixed o c a at) (Open q) h = refl
-refused-kept (fixed o c a at) (Offer q now) h = refl
-refused-kept (fixed o c a at) (Ask now) h = refl
-refused-kept (fixed o c a at) (Fix now) h = refl
-refused-kept (fixed o c a at) (Withdraw now i) h = refl
+refused-kept (fixed r o c a at) (Open q) h = refl
+refused-kept (fixed r o c a at) (Offer q now) h = refl
+refused-kept (fixed r o c a at) (Ask now) h = refl
+refused-kept (fixed r o c a at) (Fix now) h = refl
+refused-kept (fixed r o c a at) (Withdraw now i) h = refl
 
 ask-kept : (s : Series) (c : Command) → isAsk c ≡ true → changed (step s c) ≡ none
 unfolding step
@@ -109,7 +109,7 @@ ask-kept s (Open o) h = cc
 ask-kept s (Offer q now) h = cc
 ask-kept empty (Ask now) h = refl
 ask-kept (live o c) (Ask now) h = refl
-ask-kept (fixed o c a at) (Ask now) h = refl
+ask-kept (fixed r o c a at) (Ask now) h = refl
 ask-kept s (Fix now) h = cc
 ask-kept s (Withdraw now i) h = cc
 

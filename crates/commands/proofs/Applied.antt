@@ -22,7 +22,7 @@ asked book s now = go (storedAt book s)
     go : (x : Result Series) → written s book x (Ask now) ≡ book
     go (ok empty) = refl
     go (ok (live o c)) = refl
-    go (ok (fixed o c a at)) = refl
+    go (ok (fixed r o c a at)) = refl
     go (refused n) = refl
 
 module _ (book e : Bytes) where

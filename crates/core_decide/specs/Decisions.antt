@@ -1,4 +1,4 @@
--- Methods and decisions, read as the rules' methods and answers.
+-- Methods, decisions and orders, read as the rules' methods, answers and orders.
 use Prim.Native.Nat.{ℕ}
 use lib.IntN.{ℤ, _+ℤ_}
 use lib.ListN.{drop}
@@ -6,6 +6,7 @@ use Rattle.rules.specs.Answers as R
 use Rattle.rules.specs.Terms.{Terms}
 use Rattle.rules.specs.Taking.{Candidates}
 use Rattle.rules.specs.Decision.{H, D, steps, firstOf, from}
+use Rattle.rules.specs.Decision as Q
 use Rattle.core_terms.specs.Errors.{numberOf}
 use Rattle.core_decide.specs.declared.decide.SettleMethod.{SettleMethod}
 use Rattle.core_decide.specs.declared.decide.SettleMethod.the-variants as S
@@ -15,6 +16,8 @@ use Rattle.core_decide.specs.declared.decide.Decision.{Decision}
 use Rattle.core_decide.specs.declared.decide.Decision.the-variants as D
 use Rattle.core_decide.specs.declared.decide.DecisionResult.{DecisionResult}
 use Rattle.core_decide.specs.declared.decide.DecisionResult.the-variants as A
+use Rattle.core_decide.specs.declared.decide.Order.{Order}
+use Rattle.core_decide.specs.declared.decide.Order.the-variants as O
 use Rattle.core_decide.specs.declared.decide.Due.{Due}
 use Rattle.core_decide.specs.declared.decide.Due.the-variants as U
 
@@ -39,6 +42,10 @@ abbrev pub decisionOf : DecisionResult → R.Answer
 decisionOf (A.Ok d) = answerOf d
 decisionOf (A.Err e) = R.Refused (numberOf e)
 
+abbrev pub orderOf : Order → Q.Order
+orderOf O.Old = Q.Order.old
+orderOf O.Voted = Q.Order.voted
+
 -- the answer of a step that answers a once its time has come
 abbrev pub dueOf : Due → R.Answer → R.Answer
 dueOf U.Now a = a
@@ -46,5 +53,5 @@ dueOf (U.Wait until) a = R.Wait until
 dueOf U.Overflow a = R.Refused 0
 
 -- the decision where the first i of the rules' steps do not apply
-abbrev pub decideFrom : ℕ → Terms → ℤ → Candidates → ℤ → R.Answer
-decideFrom i t E c now = firstOf (drop i (steps t E c now)) (from now (H t E c now +ℤ D t E c now) R.Answer.Void)
+abbrev pub decideFrom : ℕ → Terms → ℤ → Candidates → ℤ → Q.Order → R.Answer
+decideFrom i t E c now r = firstOf (drop i (steps t E c now r)) (from now (H t E c now +ℤ D t E c now) R.Answer.Void)

@@ -1,15 +1,17 @@
 // The settlement cascade: what a series' candidates settle at, and from when.
 ghost use mathlib.Core.Path.{_≡_};
+ghost use mathlib.Core.Bool.{not, _&&_};
 ghost use Prim.Native.Nat.{_+_, _*_, _^_, _≤_};
+ghost use lib.Dec.{ltb};
 ghost use lib.IntN.{ℤ, pos, _+ℤ_};
 ghost use Rattle.rules.specs.Log.{front, total};
 ghost use Rattle.rules.specs.Answers.{Answer, number, method};
-ghost use Rattle.rules.specs.Decision.{ones, settle, from, decide};
+ghost use Rattle.rules.specs.Decision.{ones, settle, from, voted, windowFirst, decideBy};
 ghost use Rattle.rules.specs.State.{candidatesOf, decideCall};
 ghost use Rattle.numbers.specs.Wides.{wideOf};
 ghost use Rattle.core_terms.specs.Params.{termsOf};
 ghost use Rattle.core_parts.specs.States.{storedOf};
-ghost use Rattle.core_decide.specs.Decisions.{methodOf, methodResultOf, decisionOf, dueOf, decideFrom};
+ghost use Rattle.core_decide.specs.Decisions.{methodOf, methodResultOf, decisionOf, orderOf, dueOf, decideFrom};
 use core_parts::state::SettlementParts;
 use core_prices::mean::PriceResult;
 use core_prices::mean::to_atoms;
@@ -76,6 +78,13 @@ pub enum Decision {
 pub enum DecisionResult {
     Ok(Decision),
     Err(CoreError),
+}
+
+// Which of the two partial steps comes first: of old the chain's, by the members' vote the window's
+// where it has more prints, else the chain's (#109).
+pub enum Order {
+    Old,
+    Voted,
 }
 
 // Whether a time has come.
@@ -208,14 +217,37 @@ fn void_from(p: OracleParams, t: i64, now: i64) -> DecisionResult
     }
 }
 
+// Whether the chain has its turn, with n slots filled: there is a link, and the window is not ahead.
+fn chain_first(links: u8, n: u16, order: Order) -> bool
+    ensures { λ r. ⌜ r ≡ ltb 0 links && not (windowFirst (orderOf order) n links) ⌝ }
+{
+    if links == 0 {
+        return false;
+    }
+    if n <= (links as u16) {
+        return true;
+    }
+    match order {
+        Order::Old => true,
+        Order::Voted => false,
+    }
+}
+
 // The steps from the hard deadline on, with n slots filled.
-fn partial(p: OracleParams, s: SettlementParts, n: u16, hard: i64, now: i64) -> DecisionResult
-    ensures { λ r. ⌜ ((E : ℤ) → hard ≡ E +ℤ pos (p .«hard_deadline_s») → n ≡ ones (s .«filled_slots») → decisionOf r ≡ decideFrom 5 (termsOf p) E (candidatesOf (storedOf s)) now) ⌝ }
+fn partial(
+    p: OracleParams,
+    s: SettlementParts,
+    n: u16,
+    hard: i64,
+    now: i64,
+    order: Order,
+) -> DecisionResult
+    ensures { λ r. ⌜ ((E : ℤ) → hard ≡ E +ℤ pos (p .«hard_deadline_s») → n ≡ ones (s .«filled_slots») → decisionOf r ≡ decideFrom 5 (termsOf p) E (candidatesOf (storedOf s)) now (orderOf order)) ⌝ }
 {
     if now < hard {
         return DecisionResult::Ok(Decision::Wait { until: hard });
     }
-    if 0 < s.next_len {
+    if chain_first(s.next_len, n, order) {
         let t = numbers::time::later(hard, s.next_print_changed);
         return chain_from(p, s, t, now, SettleMethod::PartialNextPrint);
     }
@@ -239,8 +271,14 @@ fn partial(p: OracleParams, s: SettlementParts, n: u16, hard: i64, now: i64) -> 
 }
 
 // The decision at the time now on a series with the terms p that expires at expiry.
-fn cascade(p: OracleParams, s: SettlementParts, expiry: i64, now: i64) -> DecisionResult
-    ensures { λ r. ⌜ decisionOf r ≡ decide (termsOf p) expiry (candidatesOf (storedOf s)) now ⌝ }
+fn cascade(
+    p: OracleParams,
+    s: SettlementParts,
+    expiry: i64,
+    now: i64,
+    order: Order,
+) -> DecisionResult
+    ensures { λ r. ⌜ decisionOf r ≡ decideBy (termsOf p) expiry (candidatesOf (storedOf s)) now (orderOf order) ⌝ }
 {
     if now < expiry {
         return DecisionResult::Ok(Decision::Wait { until: expiry });
@@ -273,17 +311,19 @@ fn cascade(p: OracleParams, s: SettlementParts, expiry: i64, now: i64) -> Decisi
     if p.k_next_print <= s.next_len {
         return chain_from(p, s, expiry, now, SettleMethod::NextPrint);
     }
-    partial(p, s, n, hard, now)
+    partial(p, s, n, hard, now, order)
 }
 
-// The decision at the time now: 12 for the terms, 11 for the state, and then the cascade's.
-pub fn decide(
+// The decision at the time now by an order: 12 for the terms, 11 for the state, and then the
+// cascade's. By the old order it is the Rust's.
+pub fn decide_by(
     state: SettlementParts,
     params: OracleParams,
     expiry: UnixTimestamp,
     now: i64,
+    order: Order,
 ) -> DecisionResult
-    ensures { λ r. ⌜ decisionOf r ≡ decideCall (termsOf params) (expiry .0) (storedOf state) now ⌝ }
+    ensures { λ r. ⌜ decisionOf r ≡ decideCall (orderOf order) (termsOf params) (expiry .0) (storedOf state) now ⌝ }
 {
     if !params.in_range() {
         return DecisionResult::Err(CoreError::InvalidOracleParams);
@@ -291,5 +331,17 @@ pub fn decide(
     if !state.fits(params.slots(), params.k_next_print) {
         return DecisionResult::Err(CoreError::InvariantViolated);
     }
-    cascade(params, state, expiry.get(), now)
+    cascade(params, state, expiry.get(), now, order)
+}
+
+// The decision at the time now, by the vote.
+pub fn decide(
+    state: SettlementParts,
+    params: OracleParams,
+    expiry: UnixTimestamp,
+    now: i64,
+) -> DecisionResult
+    ensures { λ r. ⌜ decisionOf r ≡ decideCall voted (termsOf params) (expiry .0) (storedOf state) now ⌝ }
+{
+    decide_by(state, params, expiry, now, Order::Voted)
 }

@@ -132,7 +132,7 @@ module _ (t : Terms) (s : Parts) where
   too-many e h = refuted (goodState t s) (priced s 5) (λ g. good-priced g 5 h) (rw (List·getD-eq-default (s .prices) 0 {n = 5} (omega arith)))
 
   -- a good state's places all pass
-  pub misplaced : allPlaces (place s) 5 ≡ false → goodState t s ≡ false
+  misplaced : allPlaces (place s) 5 ≡ false → goodState t s ≡ false
   unfolding linkPlace
   misplaced e = refuted (goodState t s) (allPlaces (place s) 5) (λ g. all-of (place s) 5 (λ i h. go g i h (ltb i (s .links)) refl)) e
     where
@@ -141,7 +141,7 @@ module _ (t : Terms) (s : Parts) where
       go g i h false e = rw e (rw e at (good-zero g i h))
 
   -- where all the others pass, the fallback's test decides
-  pub well-placed : s .links ≤ 5 → ltb (s .bits) (2 ^ slots t) ≡ true → Bool·beq (eqb (s .bits) 0) (eqb (s .sum) 0) ≡ true → leb (s .links) (t .k) ≡ true
+  well-placed : s .links ≤ 5 → ltb (s .bits) (2 ^ slots t) ≡ true → Bool·beq (eqb (s .bits) 0) (eqb (s .sum) 0) ≡ true → leb (s .links) (t .k) ≡ true
       → allPlaces (place s) 5 ≡ true → goodState t s ≡ Bool·beq (eqZ (s .fallbackTime) (pos 0)) (eqb (s .fallbackPrice) 0)
   unfolding goodState candidatesOf linkPlace
   well-placed few bits sum links e =
@@ -168,6 +168,15 @@ module _ (t : Terms) (s : Parts) where
           go : (b : Bool) → ltb j (s .links) ≡ b → zeroAfter s j ≡ true
           go true q = rw q
           go false q = rw q (rw q at (all-at (place s) 5 e j l))
+
+  -- and where that passes too, the places decide
+  pub by-places : s .links ≤ 5 → ltb (s .bits) (2 ^ slots t) ≡ true → Bool·beq (eqb (s .bits) 0) (eqb (s .sum) 0) ≡ true → leb (s .links) (t .k) ≡ true
+      → Bool·beq (eqZ (s .fallbackTime) (pos 0)) (eqb (s .fallbackPrice) 0) ≡ true → allPlaces (place s) 5 ≡ goodState t s
+  by-places few bits sum links fallback = go (allPlaces (place s) 5) refl
+    where
+      go : (b : Bool) → allPlaces (place s) 5 ≡ b → b ≡ goodState t s
+      go true e = sym (well-placed few bits sum links e ∙ fallback)
+      go false e = sym (misplaced e)
 
 -- asked by the slots and k of terms, it is the test on them
 pub of-terms : (p : OracleParams) (s : Parts) {r : Bool} {n : ℕ} → ((t : Terms) → slots t ≡ n → t .k ≡ p .«k_next_print» → r ≡ goodState t s) → n ≡ slots (termsOf p) → r ≡ goodState (termsOf p) s

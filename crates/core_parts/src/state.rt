@@ -144,12 +144,13 @@ impl SettlementParts {
         if MAX_NEXT_PRINTS < len {
             return false;
         }
-        let times = self.next_times;
-        let prices = self.next_prices;
-        if !places_ok(times, prices, len) {
+        // Before the links, whose ten numbers the compiler holds at once.
+        if !fallback_ok(self.fallback_time, self.fallback_price) {
             return false;
         }
-        fallback_ok(self.fallback_time, self.fallback_price)
+        let times = self.next_times;
+        let prices = self.next_prices;
+        places_ok(times, prices, len)
     }
 
     // `restore`'s test: every call that takes a state asks this, after the terms.

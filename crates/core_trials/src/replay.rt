@@ -1,5 +1,5 @@
 // One call of the core on what a record gives, compared with every value that the record answers.
-ghost use Prim.Native.Nat.{_<_};
+ghost use Prim.Native.Nat.{_<_, _≤_};
 use crate::given::parts_at;
 use crate::given::terms;
 use fields::read::i8_at;
@@ -12,6 +12,7 @@ use fields::read::u64_at;
 use metalbook_core::settlement::decide::Decision;
 use metalbook_core::settlement::decide::DecisionResult;
 use metalbook_core::settlement::decide::MethodResult;
+use metalbook_core::settlement::decide::Order;
 use metalbook_core::settlement::decide::SettleMethod;
 use metalbook_core::settlement::mean::PriceResult;
 use metalbook_core::settlement::mean::to_atoms;
@@ -141,27 +142,81 @@ fn is_added(b: &[u8], p: OracleParams, s: SettlementState) -> bool {
 
 // ---- the decision
 
-fn is_outcome(b: &[u8], code: u8, outcome: u8, price: u64, samples: u16, until: i64) -> bool {
-    (u8_at(b, 183) == code)
-        & (u8_at(b, 184) == outcome)
-        & (u64_at(b, 185) == price)
-        & (u16_at(b, 193) == samples)
-        & (i64_at(b, 195) == until)
+// The numbers of an answer.
+struct Outcome {
+    code: u8,
+    number: u8,
+    price: u64,
+    samples: u16,
+    until: i64,
 }
 
-fn is_decided(b: &[u8], r: DecisionResult) -> bool {
-    match r {
-        DecisionResult::Ok(d) => match d {
-            Decision::Settle {
-                method,
-                price,
-                samples,
-            } => is_outcome(b, 255, method.number(), price.get(), samples, 0),
-            Decision::Void => is_outcome(b, 255, 5, 0, 0, 0),
-            Decision::Wait { until } => is_outcome(b, 255, 6, 0, 0, until),
+fn outcome_of(d: Decision) -> Outcome {
+    match d {
+        Decision::Settle {
+            method,
+            price,
+            samples,
+        } => Outcome {
+            code: 255,
+            number: method.number(),
+            price: price.get(),
+            samples: samples,
+            until: 0,
         },
-        DecisionResult::Err(e) => is_outcome(b, e.number(), 0, 0, 0, 0),
+        Decision::Void => Outcome {
+            code: 255,
+            number: 5,
+            price: 0,
+            samples: 0,
+            until: 0,
+        },
+        Decision::Wait { until } => Outcome {
+            code: 255,
+            number: 6,
+            price: 0,
+            samples: 0,
+            until: until,
+        },
     }
+}
+
+// Whether the answer stands at an offset.
+fn is_outcome(b: &[u8], at: usize, o: Outcome) -> bool
+    requires { ⌜ at ≤ 203 ⌝ }
+{
+    (u8_at(b, at) == o.code)
+        & (u8_at(b, at + 1) == o.number)
+        & (u64_at(b, at + 2) == o.price)
+        & (u16_at(b, at + 10) == o.samples)
+        & (i64_at(b, at + 12) == o.until)
+}
+
+fn is_decided(b: &[u8], at: usize, r: DecisionResult) -> bool
+    requires { ⌜ at ≤ 203 ⌝ }
+{
+    match r {
+        DecisionResult::Ok(d) => is_outcome(b, at, outcome_of(d)),
+        DecisionResult::Err(e) => is_outcome(
+            b,
+            at,
+            Outcome {
+                code: e.number(),
+                number: 0,
+                price: 0,
+                samples: 0,
+                until: 0,
+            },
+        ),
+    }
+}
+
+// By the old order as the Rust decides, and by the vote (#109).
+fn decides(b: &[u8], p: OracleParams, s: SettlementState) -> bool {
+    let expiry = UnixTimestamp::new(i64_at(b, 167));
+    let now = i64_at(b, 175);
+    is_decided(b, 183, s.decide_by(p, expiry, now, Order::Old))
+        & is_decided(b, 203, s.decide(p, expiry, now))
 }
 
 // ---- a state restored, and the calls on one
@@ -183,10 +238,7 @@ pub(crate) fn on_state(tag: u8, b: &[u8]) -> bool {
     if tag == 4 {
         return is_added(b, p, s);
     }
-    is_decided(
-        b,
-        s.decide(p, UnixTimestamp::new(i64_at(b, 167)), i64_at(b, 175)),
-    )
+    decides(b, p, s)
 }
 
 // ---- constructors

@@ -11,7 +11,7 @@ use Rattle.rules.specs.Bytes.{Bytes}
 use Rattle.rules.specs.Answers.{Result, ok, refused, Method, method, Answer, Refused, final}
 use Rattle.rules.specs.Terms.{Terms, goodExponent, termsTests, goodTerms}
 use Rattle.rules.specs.Mean.{numerator, denominator, rounded, mean}
-use Rattle.rules.specs.Decision.{settleAt, settle, decide}
+use Rattle.rules.specs.Decision.{settleAt, settle, voted, decide}
 use Rattle.rules.specs.Taking.{Candidates}
 use Rattle.rules.specs.State.{Parts, candidatesOf, partsOf, goodState, decideCall}
 use Rattle.rules.specs.Series.{Ask, Fix, Opening, Holdings, Series, live, decided, step}
@@ -46,12 +46,12 @@ on-good-terms : (t : Terms) (E : ℤ) (c : Candidates) (now : ℤ) → goodTerms
 unfolding goodTerms
 on-good-terms t E c now g =
     let h = every-at (termsTests t) 12 g in
-    decide-each (λ a. bookAnswer a ≡ a) t E c now (λ _. refl) refl refl
+    decide-each (λ a. bookAnswer a ≡ a) t E c now voted (λ _. refl) refl refl
     (settled _ _ _ _ h) (settled _ _ _ _ h) (settled _ _ _ _ h) (settled _ _ _ _ h) (λ _. settled _ _ _ _ h)
 
 module _ (o : Opening) (p : Parts) (prices : List ℕ) (now : ℤ) where
   abbrev call : Answer
-  call = decideCall (o .terms) (o .expiry) p now
+  call = decideCall voted (o .terms) (o .expiry) p now
 
   abbrev callOf : Bool → Bool → Answer
   callOf g k = if not g then Refused 12 else (if not k then Refused 11 else decided o (candidatesOf p) now)
@@ -108,7 +108,7 @@ module _ (book : Bytes) (s : ℕ) (o : Opening) (h : Holdings) (now : ℤ) where
   fix-waits (N.Wait until) e f = rw e (refl, refl)
 
   fix-done : (a : Answer) → decided o (h .candidates) now ≡ a → final a ≡ true
-      → (a ≡ fixAnswer) × (replaced s (fixedRecord o (partsOf (h .candidates)) (h .slotPrices) a now) book ≡ fixBook)
+      → (a ≡ fixAnswer) × (replaced s (fixedRecord voted o (partsOf (h .candidates)) (h .slotPrices) a now) book ≡ fixBook)
   unfolding step bytesOf
   fix-done a e f = rw (e, f) (refl, refl)
 
@@ -141,12 +141,12 @@ module _ (book : Bytes) (s : ℕ) (h : Untested book s) (now : ℤ) where
   fix-pending d e f = let (good, dec) = called-good o p prices now d e in in-book (rw good (fix-waits book s o (holding p prices) now d dec f))
 
   pub fix-made : (d : Decision) → call o p prices now ≡ D.answerOf d → final (D.answerOf d) ≡ true
-      → (D.answerOf d ≡ answerAt book s (Fix now)) × (replaced s (fixedRecord o p prices (D.answerOf d) now) book ≡ afterAt book s (Fix now))
+      → (D.answerOf d ≡ answerAt book s (Fix now)) × (replaced s (fixedRecord voted o p prices (D.answerOf d) now) book ≡ afterAt book s (Fix now))
   fix-made d e f =
       let (good, dec) = called-good o p prices now d e in
       let (x, y) = fix-done book s o (holding p prices) now (D.answerOf d) dec f in
       let kept = open-kept book s h (both (goodTerms (o .terms)) (goodState (o .terms) p) good .1) in
-      in-book (rw good (x, ap (λ (z : Parts). replaced s (fixedRecord o z prices (D.answerOf d) now) book) (sym kept) ∙ y))
+      in-book (rw good (x, ap (λ (z : Parts). replaced s (fixedRecord voted o z prices (D.answerOf d) now) book) (sym kept) ∙ y))
 
 -- ---- an ask of a fixed series
 

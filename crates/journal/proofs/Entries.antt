@@ -11,6 +11,7 @@ use borrow.Author.Tests.{leb-true, leb-false, le-leb, eqb-true, eqb-false, ne-eq
 use Rattle.rules.specs.Log.{if_then_else_}
 use Rattle.rules.specs.Bytes.{Bytes, concat}
 use Rattle.rules.specs.Entries.{width}
+use Rattle.rules.proofs.Bools.{not-both}
 use Rattle.rules.proofs.Journal.{Wide, wide}
 use Rattle.journal.specs.Split.{firstWidth, entriesIn, entriesAt}
 use Rattle.journal.specs.Feed.{endsIn}
@@ -134,9 +135,6 @@ ends-one last j p = rw (length-take-le 1 j (omega (arith, first-within last j)))
 
 goes-on : (last : Bool) (j : Bytes) (es : List Bytes) {w : ℕ} → firstWidth last j ≡ w → 1 < w → endsIn (take w j ∷ es) ≡ endsIn es
 goes-on last j es {w} p l = rw (length-take-le w j (omega (arith, first-within last j)), ne-eqb w 1 (λ e. omega arith))
-
-pub not-both : {b : Bool} → b ≡ true → b ≡ false → ⊥
-not-both p q = let z : _≡_ {A = ℕ} 0 1 = cc in omega arith
 
 -- what they leave is shorter than a command, where the journal goes on
 pub left-short : {j : Bytes} {es : List Bytes} → Split false j es → endsIn es ≡ false → length (drop (length (concat es)) j) < 46

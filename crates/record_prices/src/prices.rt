@@ -40,18 +40,19 @@ fn add(total: Wide, price: u64) -> Wide
     }
 }
 
-// How many slots there are up to the last that has a price.
+// How many slots there are up to the last pair that has a price: two are tested at once.
 fn priced(bytes: &[u8]) -> usize
     ensures { λ r. ⌜ Left (now (bytes .entry)) r 0 0 ⌝ }
 {
-    let mut n = SLOT_PLACES as usize;
-    while 0 < n {
-        if u64_at(bytes, SLOT_PRICES_AT + 8 * (n - 1)) != 0 {
-            return n;
+    let mut pairs = SLOT_PLACES as usize / 2;
+    while 0 < pairs {
+        let at = SLOT_PRICES_AT + 16 * (pairs - 1);
+        if (u64_at(bytes, at) | u64_at(bytes, at + 8)) != 0 {
+            return 2 * pairs;
         }
-        n -= 1;
+        pairs -= 1;
     }
-    n
+    2 * pairs
 }
 
 // Whether each slot has a price where its bit is set and zero where it is not, and the sum is their

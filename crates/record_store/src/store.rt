@@ -1,5 +1,6 @@
 // Open and fixed records written.
 ghost use mathlib.Core.Path.{_≡_};
+ghost use Rattle.rules.specs.Decision.{voted};
 ghost use Rattle.rules.specs.Record.{pricesIn, openRecord, fixedRecord};
 ghost use Rattle.core_parts.specs.States.{storedOf};
 ghost use Rattle.core_decide.specs.Decisions.{answerOf};
@@ -45,6 +46,9 @@ pub fn write_open(
     write_slot_price(part, i, price);
 }
 
+// The tag of a record that is fixed by the vote (#109).
+const FIXED: u8 = 3;
+
 // The outcome that a decision is at a time.
 fn outcome_of(d: Decision, fixing_time: i64) -> Outcome
     ensures { λ r. ⌜ r ≡ outcomeOf (answerOf d) «fixing_time» ⌝ }
@@ -55,21 +59,21 @@ fn outcome_of(d: Decision, fixing_time: i64) -> Outcome
             price,
             samples,
         } => Outcome {
-            tag: 2,
+            tag: FIXED,
             samples: samples,
             method: method.number(),
             fixing_time: fixing_time,
             price: price.get(),
         },
         Decision::Void => Outcome {
-            tag: 2,
+            tag: FIXED,
             samples: 0,
             method: SettleMethod::Void.number(),
             fixing_time: fixing_time,
             price: 0,
         },
         Decision::Wait { until: _ } => Outcome {
-            tag: 2,
+            tag: FIXED,
             samples: 0,
             method: 0,
             fixing_time: fixing_time,
@@ -78,8 +82,8 @@ fn outcome_of(d: Decision, fixing_time: i64) -> Outcome
     }
 }
 
-// Writes a fixed record over a record's bytes, with its outcome; the slot prices stay. Bytes of
-// another length stay too.
+// Writes a record that is fixed by the vote over a record's bytes, with its outcome; the slot prices
+// stay. Bytes of another length stay too.
 pub fn write_fixed(
     part: &mut [u8],
     params: OracleParams,
@@ -89,7 +93,7 @@ pub fn write_fixed(
     outcome: Decision,
     fixing_time: i64,
 )
-    ensures { λ _. ⌜ now (part .exit) ≡ recordOver (now (part .entry)) (fixedRecord (openingWith params «max_conf_bps» (expiry .0)) (storedOf state) (pricesIn (now (part .entry))) (answerOf outcome) «fixing_time») ⌝ }
+    ensures { λ _. ⌜ now (part .exit) ≡ recordOver (now (part .entry)) (fixedRecord voted (openingWith params «max_conf_bps» (expiry .0)) (storedOf state) (pricesIn (now (part .entry))) (answerOf outcome) «fixing_time») ⌝ }
 {
     let o = outcome_of(outcome, fixing_time);
     write_record(part, params, max_conf_bps, expiry.get(), state, o);

@@ -1,22 +1,21 @@
 -- What is stored in a record, by its tag and the tests that the code makes.
-use Prim.Native.Nat.{ℕ, zero, suc, _+_, _≤_, _<_}
+use Prim.Native.Nat.{ℕ, zero, suc, _≤_, _<_}
 use mathlib.Core.Path.{_≡_, refl, sym, ap, _∙_}
 use mathlib.Core.Bool.{Bool, true, false, not, _&&_}
 use mathlib.Core.List.{[], _∷_}
 use native.Mathlib.Omega.{arith}
 use lib.ListN.{length, take, drop, drop-of-length-le}
 use lib.IntN.{ℤ}
-use lib.Dec.{ltb, eqb}
-use lib.Arith.{lt-of-le-ne}
-use lib.Bits.{bitAnd, bitOr, or-add-and, and-le-l, and-le-r}
-use borrow.Author.Tests.{ltb-true, ltb-false, eq-eqb, ne-eqb, eqb-true, eqb-false}
+use lib.Dec.{ltb, leb, eqb}
+use borrow.Author.Tests.{ltb-true, ltb-false, le-leb, lt-leb, eq-eqb, ne-eqb, eqb-true, eqb-false}
 use Rattle.rules.specs.Log.{if_then_else_, every}
 use Rattle.rules.specs.Bytes.{Bytes, allZero, little, unsignedAt}
 use Rattle.rules.specs.Answers.{ok, refused, Answer, Refused}
 use Rattle.rules.specs.Terms.{Terms, goodTerms}
+use Rattle.rules.specs.Decision.{voted}
 use Rattle.rules.specs.State.{Parts, candidatesOf, goodState, decideCall}
-use Rattle.rules.specs.Series.{empty, live, decided}
-use Rattle.rules.specs.Record.{recordSize, bookSize, seriesCount, goodPrices, openingIn, partsIn, holdingsIn, tagIn, fixingTimeIn, seriesIn, bodyTests, openTests, fixedTests, standing, acceptable, stored}
+use Rattle.rules.specs.Series.{empty, live, decidedBy}
+use Rattle.rules.specs.Record.{recordSize, bookSize, seriesCount, goodPrices, openingIn, partsIn, holdingsIn, tagIn, fixingTimeIn, orderIn, seriesIn, bodyTests, openTests, fixedTests, standing, acceptable, stored}
 use Rattle.rules.specs.Book.{recordAt, look}
 use Rattle.rules.proofs.Bools.{both, and-true, and-false}
 use Rattle.book.specs.Looks.{Allowed}
@@ -31,13 +30,13 @@ module _ (bs : Bytes) where
   unfolding stored acceptable seriesIn
   stored-zero b t e = rw (t, e)
 
-  pub stored-above : 2 < tagIn bs → stored bs ≡ refused 11
+  pub stored-above : 3 < tagIn bs → stored bs ≡ refused 11
   unfolding stored acceptable
-  stored-above h = rw (ne-eqb (tagIn bs) 0 (omega arith), ne-eqb (tagIn bs) 1 (omega arith), ne-eqb (tagIn bs) 2 (omega arith))
+  stored-above h = rw (ne-eqb (tagIn bs) 0 (omega arith), ne-eqb (tagIn bs) 1 (omega arith), lt-leb (tagIn bs) 3 h)
 
   pub stored-spoilt : (tagIn bs ≡ 0 → ⊥) → every (bodyTests bs) ≡ false → stored bs ≡ refused 11
   unfolding stored acceptable
-  stored-spoilt h e = rw (ne-eqb (tagIn bs) 0 h, e) (go (eqb (tagIn bs) 1) (eqb (tagIn bs) 2))
+  stored-spoilt h e = rw (ne-eqb (tagIn bs) 0 h, e) (go (eqb (tagIn bs) 1) (leb (tagIn bs) 3))
     where
       go : (x y : Bool) → (if (if x then false else (if y then false else false)) then ok (seriesIn bs) else refused 11) ≡ refused 11
       go true y = refl
@@ -68,17 +67,18 @@ module _ (bs : Bytes) where
       go false true = refl
       go false false = refl
 
-  pub fixed-status : (b : Bool) → tagIn bs ≡ 2 → unsignedAt bs 37 3 ≡ 0 → goodPrices (holdingsIn bs) ≡ true → b ≡ goodBody bs && every (fixedTests bs) → (if b then statusAs S.Fixed bs else refused 11) ≡ stored bs
+  pub fixed-status : (b : Bool) → eqb (tagIn bs) 0 ≡ false → eqb (tagIn bs) 1 ≡ false → tagIn bs ≤ 3 → unsignedAt bs 37 3 ≡ 0 → goodPrices (holdingsIn bs) ≡ true
+      → b ≡ goodBody bs && every (fixedTests bs) → (if b then statusAs S.Fixed bs else refused 11) ≡ stored bs
   unfolding stored acceptable seriesIn
-  fixed-status b t p g f = rw (t, body-is refl refl p g, f)
+  fixed-status b x y t p g f = rw (x, y, le-leb (tagIn bs) 3 t, body-is refl refl p g, f)
 
-  -- the decision at the fixing time
+  -- the decision at the fixing time, by the record's order
   abbrev pub again : Answer
-  again = decided (openingIn bs) (candidatesOf (partsIn bs)) (fixingTimeIn bs)
+  again = decidedBy (orderIn bs) (openingIn bs) (candidatesOf (partsIn bs)) (fixingTimeIn bs)
 
   -- the core's call for it, which tests the terms and the state
   abbrev pub called : Answer
-  called = decideCall (openingIn bs .terms) (openingIn bs .expiry) (partsIn bs) (fixingTimeIn bs)
+  called = decideCall (orderIn bs) (openingIn bs .terms) (openingIn bs .expiry) (partsIn bs) (fixingTimeIn bs)
 
   pub fixed-called : every (standing bs called) ≡ goodBody bs && every (fixedTests bs)
   unfolding decideCall
@@ -91,7 +91,7 @@ module _ (bs : Bytes) where
 
   -- what is stored, by the status
   pub status-stored : statusAs (statusOf bs) bs ≡ stored bs
-  status-stored = go (eqb (tagIn bs) 0) (ltb 2 (tagIn bs)) (eqb (unsignedAt bs 37 3) 0) (goodPrices (holdingsIn bs)) (eqb (tagIn bs) 1) refl refl refl refl refl
+  status-stored = go (eqb (tagIn bs) 0) (ltb 3 (tagIn bs)) (eqb (unsignedAt bs 37 3) 0) (goodPrices (holdingsIn bs)) (eqb (tagIn bs) 1) refl refl refl refl refl
     where
       zero-tag : (b : Bool) → tagIn bs ≡ 0 → allZero bs ≡ b → statusAs (if b then S.Empty else S.Refused 11) bs ≡ stored bs
       zero-tag true t e = sym (stored-zero true t e)
@@ -101,24 +101,21 @@ module _ (bs : Bytes) where
       one-tag true t p g e = open-status true t p g e
       one-tag false t p g e = open-status false t p g e
 
-      two-tag : (b : Bool) → tagIn bs ≡ 2 → unsignedAt bs 37 3 ≡ 0 → goodPrices (holdingsIn bs) ≡ true → b ≡ goodBody bs && every (fixedTests bs) → statusAs (if b then S.Fixed else S.Refused 11) bs ≡ stored bs
-      two-tag true t p g e = fixed-status true t p g e
-      two-tag false t p g e = fixed-status false t p g e
+      fixed-tag : (b : Bool) → eqb (tagIn bs) 0 ≡ false → eqb (tagIn bs) 1 ≡ false → tagIn bs ≤ 3 → unsignedAt bs 37 3 ≡ 0 → goodPrices (holdingsIn bs) ≡ true
+          → b ≡ goodBody bs && every (fixedTests bs) → statusAs (if b then S.Fixed else S.Refused 11) bs ≡ stored bs
+      fixed-tag true x y t p g e = fixed-status true x y t p g e
+      fixed-tag false x y t p g e = fixed-status false x y t p g e
 
-      go : (x y p g z : Bool) → eqb (tagIn bs) 0 ≡ x → ltb 2 (tagIn bs) ≡ y → eqb (unsignedAt bs 37 3) 0 ≡ p → goodPrices (holdingsIn bs) ≡ g → eqb (tagIn bs) 1 ≡ z
+      go : (x y p g z : Bool) → eqb (tagIn bs) 0 ≡ x → ltb 3 (tagIn bs) ≡ y → eqb (unsignedAt bs 37 3) 0 ≡ p → goodPrices (holdingsIn bs) ≡ g → eqb (tagIn bs) 1 ≡ z
           → statusAs (if x then (if allZero bs then S.Empty else S.Refused 11) else (if y then S.Refused 11 else (if not p then S.Refused 11 else (if not g then S.Refused 11 else
           (if z then (if every (openTests bs) then S.Untested else S.Refused 11) else (if goodBody bs && every (fixedTests bs) then S.Fixed else S.Refused 11)))))) bs ≡ stored bs
       go true y p g z ex ey ep eg ez = zero-tag (allZero bs) (eqb-true (tagIn bs) 0 ex) refl
-      go false true p g z ex ey ep eg ez = sym (stored-above (ltb-true 2 (tagIn bs) ey))
+      go false true p g z ex ey ep eg ez = sym (stored-above (ltb-true 3 (tagIn bs) ey))
       go false false false g z ex ey ep eg ez = sym (stored-spoilt (eqb-false (tagIn bs) 0 ex) (not-padded ep))
       go false false true false z ex ey ep eg ez = sym (stored-spoilt (eqb-false (tagIn bs) 0 ex) (not-priced eg))
       go false false true true true ex ey ep eg ez = one-tag (every (openTests bs)) (eqb-true (tagIn bs) 1 ez) (eqb-true (unsignedAt bs 37 3) 0 ep) eg refl
       go false false true true false ex ey ep eg ez =
-          let small = ltb-false 2 (tagIn bs) ey in
-          let some : 0 < tagIn bs = lt-of-le-ne (omega arith) (λ e. eqb-false (tagIn bs) 0 ex (sym e)) in
-          let more : 1 < tagIn bs = lt-of-le-ne (omega arith) (λ e. eqb-false (tagIn bs) 1 ez (sym e)) in
-          let two : tagIn bs ≡ 2 = omega arith in
-          two-tag (goodBody bs && every (fixedTests bs)) two (eqb-true (unsignedAt bs 37 3) 0 ep) eg refl
+          fixed-tag (goodBody bs && every (fixedTests bs)) ex ez (ltb-false 3 (tagIn bs) ey) (eqb-true (unsignedAt bs 37 3) 0 ep) eg refl
 
   -- what is known of an empty record, and of one that is still to be tested
   abbrev statusBy : Bool → Bool → Bool → Bool → Bool → Bool → Bool → Bool → Status
@@ -127,7 +124,7 @@ module _ (bs : Bytes) where
       (if z then (if o then S.Untested else S.Refused 11) else (if f then S.Fixed else S.Refused 11)))))
 
   pub empty-zero : statusOf bs ≡ S.Empty → allZero bs ≡ true
-  empty-zero e = go (eqb (tagIn bs) 0) (allZero bs) (ltb 2 (tagIn bs)) (eqb (unsignedAt bs 37 3) 0) (goodPrices (holdingsIn bs)) (eqb (tagIn bs) 1) (every (openTests bs)) (goodBody bs && every (fixedTests bs)) e
+  empty-zero e = go (eqb (tagIn bs) 0) (allZero bs) (ltb 3 (tagIn bs)) (eqb (unsignedAt bs 37 3) 0) (goodPrices (holdingsIn bs)) (eqb (tagIn bs) 1) (every (openTests bs)) (goodBody bs && every (fixedTests bs)) e
     where
       go : (x a y p g z o f : Bool) → statusBy x a y p g z o f ≡ S.Empty → a ≡ true
       go true true y p g z o f e = refl
@@ -141,7 +138,7 @@ module _ (bs : Bytes) where
       go false a false true true false o false e = cc
 
   pub untested-priced : statusOf bs ≡ S.Untested → goodPrices (holdingsIn bs) ≡ true
-  untested-priced e = go (eqb (tagIn bs) 0) (allZero bs) (ltb 2 (tagIn bs)) (eqb (unsignedAt bs 37 3) 0) (goodPrices (holdingsIn bs)) (eqb (tagIn bs) 1) (every (openTests bs)) (goodBody bs && every (fixedTests bs)) e
+  untested-priced e = go (eqb (tagIn bs) 0) (allZero bs) (ltb 3 (tagIn bs)) (eqb (unsignedAt bs 37 3) 0) (goodPrices (holdingsIn bs)) (eqb (tagIn bs) 1) (every (openTests bs)) (goodBody bs && every (fixedTests bs)) e
     where
       go : (x a y p g z o f : Bool) → statusBy x a y p g z o f ≡ S.Untested → g ≡ true
       go true true y p g z o f e = cc
@@ -150,6 +147,20 @@ module _ (bs : Bytes) where
       go false a false false g z o f e = cc
       go false a false true false z o f e = cc
       go false a false true true z o f e = refl
+
+  -- by the vote, since its tag is 1
+  pub untested-voted : statusOf bs ≡ S.Untested → orderIn bs ≡ voted
+  untested-voted e = go (eqb (tagIn bs) 0) (allZero bs) (ltb 3 (tagIn bs)) (eqb (unsignedAt bs 37 3) 0) (goodPrices (holdingsIn bs)) (eqb (tagIn bs) 1) (every (openTests bs)) (goodBody bs && every (fixedTests bs)) refl e
+    where
+      go : (x a y p g z o f : Bool) → eqb (tagIn bs) 1 ≡ z → statusBy x a y p g z o f ≡ S.Untested → orderIn bs ≡ voted
+      go true true y p g z o f h e = cc
+      go true false y p g z o f h e = cc
+      go false a true p g z o f h e = cc
+      go false a false false g z o f h e = cc
+      go false a false true false z o f h e = cc
+      go false a false true true true o f h e = rw (eqb-true (tagIn bs) 1 h)
+      go false a false true true false o true h e = cc
+      go false a false true true false o false h e = cc
 
 -- ---- bytes that are all zero, eight at a time
 
@@ -182,21 +193,6 @@ word-and-rest n bs = go (eqb (little (take n bs)) 0) refl
     go : (b : Bool) → eqb (little (take n bs)) 0 ≡ b → allZero bs ≡ b && allZero (drop n bs)
     go true e = zero-word n bs (eqb-true (little (take n bs)) 0 e)
     go false e = other-word n bs (eqb-false (little (take n bs)) 0 e)
-
--- two words are zero as their bits together are
-pub either-zero : (a b : ℕ) → eqb (bitOr a b) 0 ≡ eqb a 0 && eqb b 0
-either-zero a b = go (eqb a 0) (eqb b 0) refl refl
-  where
-    sums : bitOr a b + bitAnd a b ≡ a + b
-    sums = or-add-and a b
-
-    go : (x y : Bool) → eqb a 0 ≡ x → eqb b 0 ≡ y → eqb (bitOr a b) 0 ≡ x && y
-    go true true p q =
-        let e = eqb-true a 0 p in
-        let f = eqb-true b 0 q in
-        eq-eqb (bitOr a b) 0 (omega (arith, sums))
-    go true false p q = let f = eqb-false b 0 q in ne-eqb (bitOr a b) 0 (λ z. f (omega (arith, sums, and-le-l a b)))
-    go false y p q = let e = eqb-false a 0 p in ne-eqb (bitOr a b) 0 (λ z. e (omega (arith, sums, and-le-r a b)))
 
 -- the last bytes at once
 pub last-word : (n : ℕ) (bs : Bytes) → length bs ≤ n → eqb (little (take n bs)) 0 ≡ allZero bs
@@ -242,7 +238,7 @@ looked book s h = ap statusIn h
 -- ---- the decision on a record
 
 module _ (bs : Bytes) (now : ℤ) where
-  pub decision-of : length bs ≡ recordSize → decisionIn bs now ≡ decideCall (openingIn bs .terms) (openingIn bs .expiry) (partsIn bs) now
+  pub decision-of : length bs ≡ recordSize → decisionIn bs now ≡ decideCall (orderIn bs) (openingIn bs .terms) (openingIn bs .expiry) (partsIn bs) now
   decision-of e = rw (eq-eqb (length bs) recordSize e)
 
   pub no-decision : (length bs ≡ recordSize → ⊥) → decisionIn bs now ≡ Refused 11

@@ -10,7 +10,7 @@ use Rattle.rules.specs.Answers as R
 use Rattle.rules.specs.Terms.{goodTerms}
 use Rattle.rules.specs.State.{goodState, decideCall}
 use Rattle.rules.specs.Series.{Series, empty, live, fixed}
-use Rattle.rules.specs.Record.{recordSize, goodPrices, openingIn, partsIn, holdingsIn, tagIn, fixingTimeIn, openTests, fixedTests, stored}
+use Rattle.rules.specs.Record.{recordSize, goodPrices, openingIn, partsIn, holdingsIn, tagIn, fixingTimeIn, orderIn, openTests, fixedTests, stored}
 use Rattle.rules.specs.Book.{look}
 use Rattle.record_read.specs.Records.{outcomeIn}
 use Rattle.record_test.specs.declared.status.Status.{Status}
@@ -26,14 +26,14 @@ goodBody bs = goodTerms (openingIn bs .terms) && goodState (openingIn bs .terms)
 abbrev pub statusAs : Status → Bytes → R.Result Series
 statusAs S.Empty bs = R.ok empty
 statusAs S.Untested bs = if goodBody bs then R.ok (live (openingIn bs) (holdingsIn bs)) else R.refused 11
-statusAs S.Fixed bs = R.ok (fixed (openingIn bs) (holdingsIn bs) (outcomeIn bs) (fixingTimeIn bs))
+statusAs S.Fixed bs = R.ok (fixed (orderIn bs) (openingIn bs) (holdingsIn bs) (outcomeIn bs) (fixingTimeIn bs))
 statusAs (S.Refused r) bs = R.refused r
 
 -- the status of a record's bytes
 abbrev pub statusOf : Bytes → Status
 statusOf bs =
     if eqb (tagIn bs) 0 then (if allZero bs then S.Empty else S.Refused 11) else
-    if ltb 2 (tagIn bs) then S.Refused 11 else
+    if ltb 3 (tagIn bs) then S.Refused 11 else
     if not (eqb (unsignedAt bs 37 3) 0) then S.Refused 11 else
     if not (goodPrices (holdingsIn bs)) then S.Refused 11 else
     if eqb (tagIn bs) 1 then (if every (openTests bs) then S.Untested else S.Refused 11) else
@@ -56,6 +56,6 @@ storedAt book s = storedIn (look book s)
 
 -- ---- the decision on a record
 
--- the core's decision on its fields; and of no record 11
+-- the core's decision on its fields, by its order; and of no record 11
 abbrev pub decisionIn : Bytes → ℤ → R.Answer
-decisionIn bs now = if eqb (length bs) recordSize then decideCall (openingIn bs .terms) (openingIn bs .expiry) (partsIn bs) now else R.Refused 11
+decisionIn bs now = if eqb (length bs) recordSize then decideCall (orderIn bs) (openingIn bs .terms) (openingIn bs .expiry) (partsIn bs) now else R.Refused 11

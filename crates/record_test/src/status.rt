@@ -94,7 +94,7 @@ fn stands(bytes: &[u8], d: Decision) -> bool
 
 // ---- the record as a whole
 
-// Whether a record of tag 2 is acceptable: the decision at the fixing time is made again.
+// Whether a fixed record is acceptable: the decision at the fixing time is made again.
 fn is_fixed(bytes: &[u8]) -> bool
     requires { ⌜ length (now bytes) ≡ recordSize ⌝ }
     ensures { λ r. ⌜ r ≡ goodBody (now (bytes .entry)) && every (fixedTests (now (bytes .entry))) ⌝ }
@@ -116,7 +116,7 @@ fn status_of(bytes: &[u8]) -> Status
         }
         return Status::Refused(11);
     }
-    if 2 < tag {
+    if 3 < tag {
         return Status::Refused(11);
     }
     if u24_at(bytes, 37) != 0 {

@@ -25,7 +25,7 @@ use Rattle.rules.specs.Terms.{goodTerms, slots}
 use Rattle.rules.specs.Prints.{Print, goodPrint, eqZ}
 use Rattle.rules.specs.Taking.{bit, links, follows}
 use Rattle.rules.specs.State.{partsOf, rising, goodState}
-use Rattle.rules.specs.Series.{Opening, Command, slotPlaces, Series, empty, live, fixed, decided}
+use Rattle.rules.specs.Series.{Opening, Command, slotPlaces, Series, empty, live, fixed, decidedBy}
 use Rattle.rules.specs.Record.{slotPriced, goodPrices, candidatesFit}
 use Rattle.rules.specs.Ledger.{opening, Posting, Event, events, prints, holder, chain, fallback, greatest, candidates, priceAt, slotPrices, holdings, Freeze, freeze, takenEvents, since, ledger}
 
@@ -33,7 +33,7 @@ use Rattle.rules.specs.Ledger.{opening, Posting, Event, events, prints, 
 abbrev pub sound : Series → Bool
 sound empty = true
 sound (live o h) = every (goodTerms (o .terms) ∷ goodState (o .terms) (partsOf (h .candidates)) ∷ goodPrices h ∷ [])
-sound (fixed o h a at) = every (goodTerms (o .terms) ∷ goodState (o .terms) (partsOf (h .candidates)) ∷ goodPrices h ∷ final (decided o (h .candidates) at) ∷ [])
+sound (fixed r o h a at) = every (goodTerms (o .terms) ∷ goodState (o .terms) (partsOf (h .candidates)) ∷ goodPrices h ∷ final (decidedBy r o (h .candidates) at) ∷ [])
 
 -- ---- sums of positive numbers
 

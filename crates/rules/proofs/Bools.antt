@@ -1,13 +1,20 @@
 -- Facts about Boolean tests and choices.
-use Prim.Native.Nat.{ℕ, zero, suc}
+use Prim.Native.Nat.{ℕ, zero, suc, _+_}
 use mathlib.Core.Path.{_≡_, refl}
 use mathlib.Core.Bool.{Bool, true, false, not, _&&_, _||_, Bool·beq}
 use mathlib.Core.List.{List, [], _∷_}
+use native.Mathlib.Omega.{arith}
+use lib.Dec.{eqb}
+use lib.Bits.{bitAnd, bitOr, or-add-and, and-le-l, and-le-r}
+use borrow.Author.Tests.{eq-eqb, ne-eqb, eqb-true, eqb-false}
 use Rattle.rules.specs.Log.{if_then_else_, every}
 
 pub both : (a b : Bool) → a && b ≡ true → (a ≡ true) × (b ≡ true)
 both true b e = (refl, e)
 both false b e = (e, cc)
+
+pub not-both : {b : Bool} → b ≡ true → b ≡ false → ⊥
+not-both p q = let z : _≡_ {A = ℕ} 0 1 = cc in omega arith
 
 pub and-true : (a : Bool) → a && true ≡ a
 and-true true = refl
@@ -62,3 +69,18 @@ flip false x y = refl
 pub either : {A : Type 0} (a b : Bool) (x y : A) → (if a || b then x else y) ≡ (if a then x else (if b then x else y))
 either true b x y = refl
 either false b x y = refl
+
+-- two words are zero as their bits together are
+pub either-zero : (a b : ℕ) → eqb (bitOr a b) 0 ≡ eqb a 0 && eqb b 0
+either-zero a b = go (eqb a 0) (eqb b 0) refl refl
+  where
+    sums : bitOr a b + bitAnd a b ≡ a + b
+    sums = or-add-and a b
+
+    go : (x y : Bool) → eqb a 0 ≡ x → eqb b 0 ≡ y → eqb (bitOr a b) 0 ≡ x && y
+    go true true p q =
+        let e = eqb-true a 0 p in
+        let f = eqb-true b 0 q in
+        eq-eqb (bitOr a b) 0 (omega (arith, sums))
+    go true false p q = let f = eqb-false b 0 q in ne-eqb (bitOr a b) 0 (λ z. f (omega (arith, sums, and-le-l a b)))
+    go false y p q = let e = eqb-false a 0 p in ne-eqb (bitOr a b) 0 (λ z. e (omega (arith, sums, and-le-r a b)))

@@ -12,7 +12,7 @@ use Rattle.rules.specs.Answers.{Result, ok, refused, Method, number, Ans
 use Rattle.rules.specs.Terms.{Terms}
 use Rattle.rules.specs.Mean.{mean}
 use Rattle.rules.specs.Taking.{Candidates}
-use Rattle.rules.specs.Decision.{Case, _⇒_, firstOf, settleAt, from, settle, H, D, maxZ, n, m, steps, decide}
+use Rattle.rules.specs.Decision.{Case, _⇒_, firstOf, settleAt, from, settle, H, D, maxZ, n, m, steps, Order, decideBy}
 
 module _ (P : Answer → Type 0) where
   either : (b : Bool) {x y : Answer} → (b ≡ true → P x) → P y → P (if b then x else y)
@@ -28,7 +28,7 @@ module _ (P : Answer → Type 0) where
   first-of [] otherwise f p = p
   first-of ((test ⇒ a) ∷ cases) otherwise f p = either test (f .0) (first-of cases otherwise (f .1) p)
 
-  module _ (t : Terms) (E : ℤ) (c : Candidates) (now : ℤ) where
+  module _ (t : Terms) (E : ℤ) (c : Candidates) (now : ℤ) (order : Order) where
     from-each : (T : ℤ) (a : Answer) → ((u : ℤ) → P (Wait u)) → P (Refused 0) → P a → P (from now T a)
     from-each T a w r p = either (not (fits T)) (λ _. r) (either (ltZ now T) (λ _. w T) p)
 
@@ -38,10 +38,10 @@ module _ (P : Answer → Type 0) where
         → P (settle (t .exponent) Method.PartialNextPrint (total (c .prices)) (m t E c now))
         → P (settle (t .exponent) Method.PartialWindow (c .sum) (n t E c now))
         → (ltb 0 (c .fallbackPrice) ≡ true → P (settle (t .exponent) Method.Fallback (c .fallbackPrice) 1))
-        → P (decide t E c now)
-    unfolding decide
+        → P (decideBy t E c now order)
+    unfolding decideBy
     decide-each w r v window next partialNext partialWindow fallback =
-        first-of (steps t E c now) _ (
+        first-of (steps t E c now order) _ (
           (λ _. w _),
           (
             (λ _. r),
@@ -54,10 +54,13 @@ module _ (P : Answer → Type 0) where
                   (
                     (λ _. w _),
                     (
-                      (λ _. from-each (maxZ h (c .linkChanged) +ℤ d) _ w r partialNext),
+                      (λ _. from-each (maxZ h (c .windowChanged) +ℤ d) _ w r partialWindow),
                       (
-                        (λ _. from-each (maxZ h (c .windowChanged) +ℤ d) _ w r partialWindow),
-                        ((λ e. from-each (maxZ h (c .fallbackChanged) +ℤ d) _ w r (fallback e)), tt),
+                        (λ _. from-each (maxZ h (c .linkChanged) +ℤ d) _ w r partialNext),
+                        (
+                          (λ _. from-each (maxZ h (c .windowChanged) +ℤ d) _ w r partialWindow),
+                          ((λ e. from-each (maxZ h (c .fallbackChanged) +ℤ d) _ w r (fallback e)), tt),
+                        ),
                       ),
                     ),
                   ),
@@ -85,9 +88,9 @@ byPrice (Wait t) = true
 byPrice Done = true
 byPrice (Refused r) = true
 
-pub decide-by-price : (t : Terms) (E : ℤ) (c : Candidates) (now : ℤ) → byPrice (decide t E c now) ≡ true
-decide-by-price t E c now =
-    decide-each (λ a. byPrice a ≡ true) t E c now (λ _. refl) refl refl
+pub decide-by-price : (t : Terms) (E : ℤ) (c : Candidates) (now : ℤ) (order : Order) → byPrice (decideBy t E c now order) ≡ true
+decide-by-price t E c now order =
+    decide-each (λ a. byPrice a ≡ true) t E c now order (λ _. refl) refl refl
     (at Method.Window (c .sum) _ refl) (at Method.NextPrint (total (c .prices)) _ refl) (at Method.PartialNextPrint (total (c .prices)) _ refl)
     (at Method.PartialWindow (c .sum) _ refl) (λ _. at Method.Fallback (c .fallbackPrice) 1 refl)
   where

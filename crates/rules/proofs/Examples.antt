@@ -11,7 +11,7 @@ use Rattle.rules.specs.Terms.{goodTerms}
 use Rattle.rules.specs.Prints.{newPrint, accept}
 use Rattle.rules.specs.Mean.{mean}
 use Rattle.rules.specs.Taking.{bit, canonical, links, qualifies, slotFor, printAnswer, place}
-use Rattle.rules.specs.Decision.{ones, decide}
+use Rattle.rules.specs.Decision.{ones, decideBy}
 use Rattle.rules.specs.Series.{Command, Open, Offer, Ask, Series, empty, step, answer, after}
 
 -- 01's journal's terms, with another tolerance, hard deadline and expiry
@@ -104,5 +104,5 @@ said =
     ∷ means (ok (2 ^ 64 - 1) ∷ refused 0 ∷ []) ∷ []
 
 fixings : computed ≡ said
-unfolding computed said step goodTerms accept newPrint printAnswer place slotFor canonical links qualifies bit decide ones mean
+unfolding computed said step goodTerms accept newPrint printAnswer place slotFor canonical links qualifies bit decideBy ones mean
 fixings = refl

@@ -16,5 +16,6 @@ pub mod Record
 pub mod Withdraw
 pub mod Examples
 pub mod Decision
+pub mod Voted
 pub mod Slot
 pub mod Journal

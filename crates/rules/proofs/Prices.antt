@@ -19,7 +19,7 @@ use Rattle.rules.specs.Terms.{slots, goodTerms, termsTests}
 use Rattle.rules.specs.Prints.{Print, accept}
 use Rattle.rules.specs.Mean.{mean}
 use Rattle.rules.specs.Taking.{Candidates, bit, usable, timesFit, sumFits, printAnswer}
-use Rattle.rules.specs.Decision.{ones, settleAt, settle}
+use Rattle.rules.specs.Decision.{Order, ones, settleAt, settle}
 use Rattle.rules.specs.Series.{Opening, Command, Open, Offer, Ask, Fix, Withdraw, Holdings, Series, fixed, keeps, leaves, decided, offered, waiting, fixing, withdrawing, step, answerOf, answer}
 use Rattle.rules.specs.Ledger.{Posting, Event, prints, opening, holdings, candidates, holder, chain, fallback, pricesFor, FairSettle, Freeze, freeze, takenEvents, since, ledger}
 
@@ -105,7 +105,7 @@ module _ (o : Opening) (es : Log Event) (g : goodTerms (o .terms) ≡ true) wher
   pub decide-fair : (t : ℤ) → FairAnswer o es (decided o (candidates o es) t)
   unfolding pricesFor
   decide-fair t =
-      decide-each (FairAnswer o es) (o .terms) (o .expiry) c t (λ u. wait) refusal void
+      decide-each (FairAnswer o es) (o .terms) (o .expiry) c t _ (λ u. wait) refusal void
       (settle-fair Method.Window (c .sum) _ (omega arith) sum-is ones-is)
       (settle-fair Method.NextPrint (total (c .prices)) _ (omega arith) prices-is links-is)
       (settle-fair Method.PartialNextPrint (total (c .prices)) _ (omega arith) prices-is links-is)
@@ -130,7 +130,7 @@ module _ (o : Opening) (es : Log Event) where
   fixing-fair : (h : Holdings) (now : ℤ) (a : Answer) → FairAnswer o es a → FairAnswer o es (answerOf (fixing o h now a))
   fixing-fair h now a f = go (final a)
     where
-      go : (b : Bool) → FairAnswer o es (answerOf (if b then leaves a (fixed o h a now) else keeps (waiting a)))
+      go : (b : Bool) → FairAnswer o es (answerOf (if b then leaves a (fixed Order.voted o h a now) else keeps (waiting a)))
       go true = f
       go false = waiting-fair f
 

@@ -1,5 +1,5 @@
 -- What is written into a record is read back from it, and the ledger's record is acceptable.
-use Prim.Native.Nat.{ℕ, zero, suc, _+_, _*_, _/_, _%_, _^_, _<_}
+use Prim.Native.Nat.{ℕ, zero, suc, _+_, _*_, _/_, _%_, _^_, _<_, _≤_}
 use mathlib.Core.Path.{_≡_, refl, ap, _∙_}
 use mathlib.Core.Bool.{Bool, true, false, _&&_}
 use mathlib.Core.Option.{Option, none, some}
@@ -10,10 +10,10 @@ use native.Mathlib.Omega.{arith}
 use native.Mathlib.Nat.{div-add-mod', mod-lt}
 use lib.IntN.{ℤ, pos}
 use lib.Signed.{mag}
-use lib.Dec.{ltb, eqb, lit<}
+use lib.Dec.{ltb, leb, eqb, lit<}
 use lib.Pow.{shr-lt}
-use borrow.Author.Tests.{ltb-true, lt-ltb, eqb-true, eq-eqb, ne-eqb}
-use Rattle.rules.proofs.Bools.{both, test, every-at}
+use borrow.Author.Tests.{ltb-true, lt-ltb, leb-true, eqb-true, eqb-false, eq-eqb, ne-eqb}
+use Rattle.rules.proofs.Bools.{both, not-both, test, every-at}
 use Rattle.rules.proofs.Bytes.{length-bytes, little-bytes, signed-word, word-below}
 use Rattle.rules.proofs.Logs.{length-list, list-at, list-is}
 use Rattle.rules.proofs.Sums.{all<-at}
@@ -22,13 +22,14 @@ use Rattle.rules.proofs.Decision.{byPrice, decide-by-price}
 use Rattle.rules.proofs.Fields.{commandFits, ledger-fits}
 use Rattle.rules.proofs.Acceptable.{sound, ledger-sound}
 use Rattle.rules.specs.Log.{Log, ε, _▹_, if_then_else_, maybe, size, all, nth, every, all<, listFrom}
-use Rattle.rules.specs.Bytes.{Bytes, zeros, concat, little, signed, unsignedAt, signedAt, bytes, word, signedBytes, fitsUnsigned, fits}
+use Rattle.rules.specs.Bytes.{Bytes, zeros, allZero, concat, little, signed, unsignedAt, signedAt, bytes, word, signedBytes, fitsUnsigned, fits}
 use Rattle.rules.specs.Answers.{ok, Method, number, method, Answer, Opened, Used, Wait, Settle, Done, Refused, final}
 use Rattle.rules.specs.Terms.{goodTerms}
 use Rattle.rules.specs.Taking.{Candidates}
+use Rattle.rules.specs.Decision.{Order}
 use Rattle.rules.specs.State.{candidatesOf, partsOf, goodState}
-use Rattle.rules.specs.Series.{Opening, Command, Holdings, slotPlaces, Series, empty, live, fixed, decided}
-use Rattle.rules.specs.Record.{methodOf, samplesOf, priceOf, eight, fields, priceBytes, bytesOf, outcome, goodPrices, openingIn, partsIn, pricesIn, holdingsIn, tagIn, samplesIn, methodIn, fixingTimeIn, priceIn, seriesIn, bodyTests, fixedTests, acceptable, stored, openingFields, openingFits, candidatesFit, pricesFit, outcomeFits, seriesFits}
+use Rattle.rules.specs.Series.{Opening, Command, Holdings, slotPlaces, Series, empty, live, fixed, decidedBy}
+use Rattle.rules.specs.Record.{methodOf, samplesOf, priceOf, eight, fields, tagOf, priceBytes, bytesOf, outcome, goodPrices, openingIn, partsIn, pricesIn, holdingsIn, tagIn, samplesIn, methodIn, fixingTimeIn, priceIn, orderIn, seriesIn, bodyTests, openTests, fixedTests, acceptable, stored, openingFields, openingFits, candidatesFit, pricesFit, outcomeFits, seriesFits}
 use Rattle.rules.specs.Ledger.{opening, takenEvents, holdings, Freeze, freeze, since, ledger}
 
 -- ---- single fields
@@ -232,19 +233,19 @@ outcome-back (Wait t) f h = cc
 outcome-back Done f h = cc
 outcome-back (Refused r) f h = cc
 
--- the outcome that stands in a fixed record is the decision at its fixing time
+-- the outcome that stands in a fixed record is the decision at its fixing time, by its order
 pub outcome-stands : (bs : Bytes) → every (fixedTests bs) ≡ true
-    → outcome (method (methodIn bs)) (priceIn bs) (samplesIn bs) ≡ decided (openingIn bs) (candidatesOf (partsIn bs)) (fixingTimeIn bs)
+    → outcome (method (methodIn bs)) (priceIn bs) (samplesIn bs) ≡ decidedBy (orderIn bs) (openingIn bs) (candidatesOf (partsIn bs)) (fixingTimeIn bs)
 outcome-stands bs h =
     let o = openingIn bs in
     let c = candidatesOf (partsIn bs) in
-    let d = decided o c (fixingTimeIn bs) in
+    let d = decidedBy (orderIn bs) o c (fixingTimeIn bs) in
     rw (
       eqb-true (samplesIn bs) (samplesOf d) (every-at (fixedTests bs) 1 h),
       eqb-true (methodIn bs) (methodOf d) (every-at (fixedTests bs) 2 h),
       eqb-true (priceIn bs) (priceOf d) (every-at (fixedTests bs) 3 h),
     )
-    (outcome-back d (every-at (fixedTests bs) 0 h) (decide-by-price (o .terms) (o .expiry) c (fixingTimeIn bs)))
+    (outcome-back d (every-at (fixedTests bs) 0 h) (decide-by-price (o .terms) (o .expiry) c (fixingTimeIn bs) (orderIn bs)))
 
 -- what it is for an outcome to fit
 fitting : (a : Answer) → outcomeFits a ≡ true → (final a ≡ true) × (byPrice a ≡ true) × (fitsUnsigned 2 (samplesOf a) ≡ true) × (fitsUnsigned 8 (priceOf a) ≡ true)
@@ -259,59 +260,95 @@ fitting (Wait t) h = (h, refl, refl, refl)
 fitting Done h = (h, refl, refl, refl)
 fitting (Refused r) h = (h, refl, refl, refl)
 
+-- ---- the tag
+
+-- the tag of a fixed record is its order's
+pub order-tag : (bs : Bytes) → eqb (tagIn bs) 0 ≡ false → eqb (tagIn bs) 1 ≡ false → leb (tagIn bs) 3 ≡ true → tagIn bs ≡ tagOf (orderIn bs)
+order-tag bs x y z = go (eqb (tagIn bs) (tagOf Order.old)) refl
+  where
+    go : (b : Bool) → eqb (tagIn bs) (tagOf Order.old) ≡ b → tagIn bs ≡ tagOf (if b then Order.old else Order.voted)
+    go true e = eqb-true (tagIn bs) 2 e
+    go false e = omega (arith, eqb-false (tagIn bs) 0 x, eqb-false (tagIn bs) 1 y, eqb-false (tagIn bs) 2 e, leb-true (tagIn bs) 3 z)
+
+-- no tag above 3
+pub tag-within : (bs : Bytes) → acceptable bs ≡ true → tagIn bs ≤ 3
+unfolding acceptable
+tag-within bs h = go (eqb (tagIn bs) 0) (eqb (tagIn bs) 1) (leb (tagIn bs) 3) refl refl refl h
+  where
+    go : (x y z : Bool) → eqb (tagIn bs) 0 ≡ x → eqb (tagIn bs) 1 ≡ y → leb (tagIn bs) 3 ≡ z
+        → (if x then allZero bs else if y then every (bodyTests bs) && every (openTests bs) else if z then every (bodyTests bs) && every (fixedTests bs) else false) ≡ true
+        → tagIn bs ≤ 3
+    go true y z ex ey ez h = omega (arith, eqb-true (tagIn bs) 0 ex)
+    go false true z ex ey ez h = omega (arith, eqb-true (tagIn bs) 1 ey)
+    go false false true ex ey ez h = leb-true (tagIn bs) 3 ez
+    go false false false ex ey ez h = absurd (not-both h refl)
+
 -- ---- the series
+
+-- the tag of a fixed series: a byte that is neither of the other two, at most 3, and says the order
+tags : (r : Order) → (fitsUnsigned 1 (tagOf r) ≡ true) × (eqb (tagOf r) 0 ≡ false) × (eqb (tagOf r) 1 ≡ false) × (leb (tagOf r) 3 ≡ true)
+    × ((if eqb (tagOf r) (tagOf Order.old) then Order.old else Order.voted) ≡ r)
+tags Order.old = (refl, refl, refl, refl, refl)
+tags Order.voted = (refl, refl, refl, refl, refl)
 
 live-read : (o : Opening) (h : Holdings) → openingFits o ≡ true → candidatesFit (h .candidates) ≡ true → pricesFit (h .slotPrices) ≡ true → seriesIn (bytesOf (live o h)) ≡ live o h
 unfolding seriesIn bytesOf
 live-read o h fo fc fp =
     rw (tag-read 1 o h 0 0 (pos 0) 0 fo fc fp refl, opening-back 1 o h 0 0 (pos 0) 0 fo fc fp, holdings-read 1 o h 0 0 (pos 0) 0 fo fc fp)
 
-module _ (o : Opening) (h : Holdings) (a : Answer) (at : ℤ) (fo : openingFits o ≡ true) (fc : candidatesFit (h .candidates) ≡ true) (fp : pricesFit (h .slotPrices) ≡ true) (fa : outcomeFits a ≡ true) (ft : fits at ≡ true) where
-  samples-back : samplesIn (bytesOf (fixed o h a at)) ≡ samplesOf a
+module _ (r : Order) (o : Opening) (h : Holdings) (a : Answer) (at : ℤ) (fo : openingFits o ≡ true) (fc : candidatesFit (h .candidates) ≡ true) (fp : pricesFit (h .slotPrices) ≡ true) (fa : outcomeFits a ≡ true) (ft : fits at ≡ true) where
+  samples-back : samplesIn (bytesOf (fixed r o h a at)) ≡ samplesOf a
   unfolding bytesOf
-  samples-back = samples-read 2 o h (samplesOf a) (methodOf a) at (priceOf a) fo fc fp (fitting a fa .2)
+  samples-back = samples-read (tagOf r) o h (samplesOf a) (methodOf a) at (priceOf a) fo fc fp (fitting a fa .2)
 
-  method-back : methodIn (bytesOf (fixed o h a at)) ≡ methodOf a
+  method-back : methodIn (bytesOf (fixed r o h a at)) ≡ methodOf a
   unfolding bytesOf
-  method-back = method-read 2 o h (samplesOf a) (methodOf a) at (priceOf a) fo fc fp (method-fits a)
+  method-back = method-read (tagOf r) o h (samplesOf a) (methodOf a) at (priceOf a) fo fc fp (method-fits a)
 
-  fixing-time-back : fixingTimeIn (bytesOf (fixed o h a at)) ≡ at
+  fixing-time-back : fixingTimeIn (bytesOf (fixed r o h a at)) ≡ at
   unfolding bytesOf
-  fixing-time-back = time-read 2 o h (samplesOf a) (methodOf a) at (priceOf a) fo fc fp ft
+  fixing-time-back = time-read (tagOf r) o h (samplesOf a) (methodOf a) at (priceOf a) fo fc fp ft
 
-  fixed-price-back : priceIn (bytesOf (fixed o h a at)) ≡ priceOf a
+  fixed-price-back : priceIn (bytesOf (fixed r o h a at)) ≡ priceOf a
   unfolding bytesOf
-  fixed-price-back = price-read 2 o h (samplesOf a) (methodOf a) at (priceOf a) fo fc fp (fitting a fa .3)
+  fixed-price-back = price-read (tagOf r) o h (samplesOf a) (methodOf a) at (priceOf a) fo fc fp (fitting a fa .3)
 
-  fixed-opening : openingIn (bytesOf (fixed o h a at)) ≡ o
+  fixed-opening : openingIn (bytesOf (fixed r o h a at)) ≡ o
   unfolding bytesOf
-  fixed-opening = opening-back 2 o h (samplesOf a) (methodOf a) at (priceOf a) fo fc fp
+  fixed-opening = opening-back (tagOf r) o h (samplesOf a) (methodOf a) at (priceOf a) fo fc fp
 
-  fixed-holdings : holdingsIn (bytesOf (fixed o h a at)) ≡ h
+  fixed-holdings : holdingsIn (bytesOf (fixed r o h a at)) ≡ h
   unfolding bytesOf
-  fixed-holdings = holdings-read 2 o h (samplesOf a) (methodOf a) at (priceOf a) fo fc fp
+  fixed-holdings = holdings-read (tagOf r) o h (samplesOf a) (methodOf a) at (priceOf a) fo fc fp
 
-  fixed-tag : tagIn (bytesOf (fixed o h a at)) ≡ 2
+  fixed-tag : tagIn (bytesOf (fixed r o h a at)) ≡ tagOf r
   unfolding bytesOf
-  fixed-tag = tag-read 2 o h (samplesOf a) (methodOf a) at (priceOf a) fo fc fp refl
+  fixed-tag = tag-read (tagOf r) o h (samplesOf a) (methodOf a) at (priceOf a) fo fc fp (tags r .0)
 
-  fixed-read : seriesIn (bytesOf (fixed o h a at)) ≡ fixed o h a at
+  fixed-order : orderIn (bytesOf (fixed r o h a at)) ≡ r
+  fixed-order = rw fixed-tag (tags r .4)
+
+  fixed-read : seriesIn (bytesOf (fixed r o h a at)) ≡ fixed r o h a at
   unfolding seriesIn
   fixed-read =
-      rw (fixed-tag, fixed-opening, fixed-holdings, fixing-time-back, method-back, samples-back, fixed-price-back)
-      (ap (λ x. fixed o h x at) (outcome-back a (fitting a fa .0) (fitting a fa .1)))
+      rw (fixed-order, fixed-tag, tags r .1, tags r .2, fixed-opening, fixed-holdings, fixing-time-back, method-back, samples-back, fixed-price-back)
+      (ap (λ x. fixed r o h x at) (outcome-back a (fitting a fa .0) (fitting a fa .1)))
 
-  fixed-body : goodTerms (o .terms) ≡ true → goodState (o .terms) (partsOf (h .candidates)) ≡ true → goodPrices h ≡ true → every (bodyTests (bytesOf (fixed o h a at))) ≡ true
+  fixed-body : goodTerms (o .terms) ≡ true → goodState (o .terms) (partsOf (h .candidates)) ≡ true → goodPrices h ≡ true → every (bodyTests (bytesOf (fixed r o h a at))) ≡ true
   unfolding bytesOf
-  fixed-body g s p = body-passes 2 o h (samplesOf a) (methodOf a) at (priceOf a) fo fc fp g s p
+  fixed-body g s p = body-passes (tagOf r) o h (samplesOf a) (methodOf a) at (priceOf a) fo fc fp g s p
 
-  fixed-acceptable : goodTerms (o .terms) ≡ true → goodState (o .terms) (partsOf (h .candidates)) ≡ true → goodPrices h ≡ true → final (decided o (h .candidates) at) ≡ true → a ≡ decided o (h .candidates) at
-      → acceptable (bytesOf (fixed o h a at)) ≡ true
+  fixed-acceptable : goodTerms (o .terms) ≡ true → goodState (o .terms) (partsOf (h .candidates)) ≡ true → goodPrices h ≡ true
+      → final (decidedBy r o (h .candidates) at) ≡ true → a ≡ decidedBy r o (h .candidates) at → acceptable (bytesOf (fixed r o h a at)) ≡ true
   unfolding acceptable
   fixed-acceptable g s p f e =
       let settles : final a ≡ true = ap final e ∙ f in
       rw (
+        fixed-order,
         fixed-tag,
+        tags r .1,
+        tags r .2,
+        tags r .3,
         fixed-body g s p,
         fixed-opening,
         ap (λ (x : Holdings). x .candidates) fixed-holdings,
@@ -333,9 +370,9 @@ written-read empty h = refl
 written-read (live o h) f =
     let tests : List Bool = openingFits o ∷ candidatesFit (h .candidates) ∷ pricesFit (h .slotPrices) ∷ [] in
     live-read o h (every-at tests 0 f) (every-at tests 1 f) (every-at tests 2 f)
-written-read (fixed o h a at) f =
+written-read (fixed r o h a at) f =
     let tests : List Bool = openingFits o ∷ candidatesFit (h .candidates) ∷ pricesFit (h .slotPrices) ∷ outcomeFits a ∷ fits at ∷ [] in
-    fixed-read o h a at (every-at tests 0 f) (every-at tests 1 f) (every-at tests 2 f) (every-at tests 3 f) (every-at tests 4 f)
+    fixed-read r o h a at (every-at tests 0 f) (every-at tests 1 f) (every-at tests 2 f) (every-at tests 3 f) (every-at tests 4 f)
 
 -- ---- acceptable records
 
@@ -343,7 +380,7 @@ written-read (fixed o h a at) f =
 abbrev pub honest : Series → Type 0
 honest empty = Unit
 honest (live o h) = Unit
-honest (fixed o h a at) = a ≡ decided o (h .candidates) at
+honest (fixed r o h a at) = a ≡ decidedBy r o (h .candidates) at
 
 live-acceptable : (o : Opening) (h : Holdings) → openingFits o ≡ true → candidatesFit (h .candidates) ≡ true → pricesFit (h .slotPrices) ≡ true
     → goodTerms (o .terms) ≡ true → goodState (o .terms) (partsOf (h .candidates)) ≡ true → goodPrices h ≡ true
@@ -360,10 +397,10 @@ written-acceptable (live o h) f k e =
     let tests : List Bool = openingFits o ∷ candidatesFit (h .candidates) ∷ pricesFit (h .slotPrices) ∷ [] in
     let sounds : List Bool = goodTerms (o .terms) ∷ goodState (o .terms) (partsOf (h .candidates)) ∷ goodPrices h ∷ [] in
     live-acceptable o h (every-at tests 0 f) (every-at tests 1 f) (every-at tests 2 f) (every-at sounds 0 k) (every-at sounds 1 k) (every-at sounds 2 k)
-written-acceptable (fixed o h a at) f k e =
+written-acceptable (fixed r o h a at) f k e =
     let tests : List Bool = openingFits o ∷ candidatesFit (h .candidates) ∷ pricesFit (h .slotPrices) ∷ outcomeFits a ∷ fits at ∷ [] in
-    let sounds : List Bool = goodTerms (o .terms) ∷ goodState (o .terms) (partsOf (h .candidates)) ∷ goodPrices h ∷ final (decided o (h .candidates) at) ∷ [] in
-    fixed-acceptable o h a at (every-at tests 0 f) (every-at tests 1 f) (every-at tests 2 f) (every-at tests 3 f) (every-at tests 4 f)
+    let sounds : List Bool = goodTerms (o .terms) ∷ goodState (o .terms) (partsOf (h .candidates)) ∷ goodPrices h ∷ final (decidedBy r o (h .candidates) at) ∷ [] in
+    fixed-acceptable r o h a at (every-at tests 0 f) (every-at tests 1 f) (every-at tests 2 f) (every-at tests 3 f) (every-at tests 4 f)
     (every-at sounds 0 k) (every-at sounds 1 k) (every-at sounds 2 k) (every-at sounds 3 k) e
 
 pub written-stored : (s : Series) → seriesFits s ≡ true → sound s ≡ true → honest s → stored (bytesOf s) ≡ ok s

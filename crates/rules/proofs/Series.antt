@@ -19,6 +19,7 @@ use Rattle.rules.specs.Answers.{Result, ok, refused, Answer, Used, Refus
 use Rattle.rules.specs.Terms.{Terms, slots, goodTerms}
 use Rattle.rules.specs.Prints.{Print, Quote, eqZ, goodPrint, newPrint, accept}
 use Rattle.rules.specs.Taking.{Candidates, slotFor, isLink, isFallback, usable, timesFit, sumFits, printAnswer}
+use Rattle.rules.specs.Decision.{Order}
 use Rattle.rules.specs.Series.{Opening, Command, Open, Offer, Ask, Fix, Withdraw, Holdings, empty, live, fixed, noHoldings, keeps, leaves, decided, offerHeld, offered, waiting, withdrawing, step, changed, after}
 use Rattle.rules.specs.Ledger.{goodOpen, opening, Posting, Event, posted, withdrawal, accepted, taken, events, candidates, holder, holdings, Freeze, freezes, freeze, takenEvents, since, ledger}
 
@@ -234,7 +235,7 @@ module _ (j : Log Command) (range : all inRange j ≡ true) where
     after-live (Ask now) f _ = rw (e, f)
     after-live (Fix now) f _ = rw (e, f) (go (final (decided o (h .candidates) now)))
       where
-        go : (b : Bool) → maybe (live o h) (λ s. s) (changed (if b then leaves (decided o (h .candidates) now) (fixed o h (decided o (h .candidates) now) now) else keeps (waiting (decided o (h .candidates) now))))
+        go : (b : Bool) → maybe (live o h) (λ s. s) (changed (if b then leaves (decided o (h .candidates) now) (fixed Order.voted o h (decided o (h .candidates) now) now) else keeps (waiting (decided o (h .candidates) now))))
             ≡ (let z : Option Freeze = if b then some (record { ahead = j; now = now }) else none in
             since o (holdings o (maybe (events j) (λ z. events (z .ahead)) z)) z)
         go true = refl

@@ -13,7 +13,7 @@ use Rattle.rules.specs.Answers.{ok, refused, Method, Answer, Wait, Refus
 use Rattle.rules.specs.Terms.{Terms, slots, goodTerms, termsTests}
 use Rattle.rules.specs.Mean.{rounded, numerator, denominator, mean}
 use Rattle.rules.specs.Taking.{Candidates}
-use Rattle.rules.specs.Decision.{ones, maxZ, settleAt, from, settle, decide}
+use Rattle.rules.specs.Decision.{ones, maxZ, settleAt, from, settle, Order, windowFirst, decideBy, decide}
 
 -- d asked at t gives at most n Waits, asked again when they say, and then an answer that is the same at every later time
 pub data Decides (d : ℤ → Answer) : ℕ → ℤ → Type 0 where
@@ -59,25 +59,28 @@ module _ (t : Terms) (E : ℤ) (c : Candidates) (good : goodTerms t ≡ true) wh
   -- from H on, with neither a window nor a chain complete
   after-H : fits H ≡ true → leb (slots t) N ≡ false → leb (t .minimum) N ≡ false → leb (t .k) M ≡ false
       → (now : ℤ) → leZ E now ≡ true → leZ H now ≡ true → (n : ℕ) → Decides (decide t E c) (suc n) now
-  unfolding decide
-  after-H e₁ e₂ e₃ e₄ now l h n = go (ltb 0 M) (ltb 0 N) (ltb 0 (c .fallbackPrice)) refl refl refl
+  unfolding decideBy
+  after-H e₁ e₂ e₃ e₄ now l h n = go (windowFirst Order.voted N M) (ltb 0 M) (ltb 0 N) (ltb 0 (c .fallbackPrice)) refl refl refl refl
     where
-      go : (b₅ b₆ b₇ : Bool) → ltb 0 M ≡ b₅ → ltb 0 N ≡ b₆ → ltb 0 (c .fallbackPrice) ≡ b₇ → Decides (decide t E c) (suc n) now
-      go true b₆ b₇ e₅ e₆ e₇ =
-          from-on (maxZ H (c .linkChanged) +ℤ D) (settle (t .exponent) Method.PartialNextPrint (total (c .prices)) M) (settle-settled Method.PartialNextPrint (total (c .prices)) M) now
-          (λ later r. rw (not-before E now later l r, e₁, e₂, e₃, e₄, not-before H now later h r, e₅)) n
-      go false true b₇ e₅ e₆ e₇ =
+      go : (b₅ b₆ b₇ b₈ : Bool) → windowFirst Order.voted N M ≡ b₅ → ltb 0 M ≡ b₆ → ltb 0 N ≡ b₇ → ltb 0 (c .fallbackPrice) ≡ b₈ → Decides (decide t E c) (suc n) now
+      go true b₆ b₇ b₈ e₅ e₆ e₇ e₈ =
           from-on (maxZ H (c .windowChanged) +ℤ D) (settle (t .exponent) Method.PartialWindow (c .sum) N) (settle-settled Method.PartialWindow (c .sum) N) now
+          (λ later r. rw (not-before E now later l r, e₁, e₂, e₃, e₄, not-before H now later h r, e₅)) n
+      go false true b₇ b₈ e₅ e₆ e₇ e₈ =
+          from-on (maxZ H (c .linkChanged) +ℤ D) (settle (t .exponent) Method.PartialNextPrint (total (c .prices)) M) (settle-settled Method.PartialNextPrint (total (c .prices)) M) now
           (λ later r. rw (not-before E now later l r, e₁, e₂, e₃, e₄, not-before H now later h r, e₅, e₆)) n
-      go false false true e₅ e₆ e₇ =
-          from-on (maxZ H (c .fallbackChanged) +ℤ D) (settle (t .exponent) Method.Fallback (c .fallbackPrice) 1) (settle-settled Method.Fallback (c .fallbackPrice) 1) now
+      go false false true b₈ e₅ e₆ e₇ e₈ =
+          from-on (maxZ H (c .windowChanged) +ℤ D) (settle (t .exponent) Method.PartialWindow (c .sum) N) (settle-settled Method.PartialWindow (c .sum) N) now
           (λ later r. rw (not-before E now later l r, e₁, e₂, e₃, e₄, not-before H now later h r, e₅, e₆, e₇)) n
-      go false false false e₅ e₆ e₇ =
-          from-on (H +ℤ D) Answer.Void refl now (λ later r. rw (not-before E now later l r, e₁, e₂, e₃, e₄, not-before H now later h r, e₅, e₆, e₇)) n
+      go false false false true e₅ e₆ e₇ e₈ =
+          from-on (maxZ H (c .fallbackChanged) +ℤ D) (settle (t .exponent) Method.Fallback (c .fallbackPrice) 1) (settle-settled Method.Fallback (c .fallbackPrice) 1) now
+          (λ later r. rw (not-before E now later l r, e₁, e₂, e₃, e₄, not-before H now later h r, e₅, e₆, e₇, e₈)) n
+      go false false false false e₅ e₆ e₇ e₈ =
+          from-on (H +ℤ D) Answer.Void refl now (λ later r. rw (not-before E now later l r, e₁, e₂, e₃, e₄, not-before H now later h r, e₅, e₆, e₇, e₈)) n
 
   -- from E on
   after-E : (now : ℤ) → leZ E now ≡ true → (n : ℕ) → Decides (decide t E c) (suc (suc n)) now
-  unfolding decide
+  unfolding decideBy
   after-E now l n = go (fits H) (leb (slots t) N) (leb (t .minimum) N) (leb (t .k) M) refl refl refl refl
     where
       go : (b₁ b₂ b₃ b₄ : Bool) → fits H ≡ b₁ → leb (slots t) N ≡ b₂ → leb (t .minimum) N ≡ b₃ → leb (t .k) M ≡ b₄
@@ -101,7 +104,7 @@ module _ (t : Terms) (E : ℤ) (c : Candidates) (good : goodTerms t ≡ true) wh
 
   -- before E it is one Wait more
   pub three-waits : fits E ≡ true → (now : ℤ) → Decides (decide t E c) 3 now
-  unfolding decide
+  unfolding decideBy
   three-waits f now = go (ltZ now E) refl
     where
       go : (b : Bool) → ltZ now E ≡ b → Decides (decide t E c) 3 now

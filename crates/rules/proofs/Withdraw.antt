@@ -14,6 +14,7 @@ use Rattle.rules.specs.Log.{Σ<, all<}
 use Rattle.rules.specs.Answers.{Answer, Done, Refused}
 use Rattle.rules.specs.Terms.{slots}
 use Rattle.rules.specs.Taking.{bit}
+use Rattle.rules.specs.Decision.{Order}
 use Rattle.rules.specs.Series.{Opening, Withdraw, Holdings, slotPlaces, empty, live, fixed, keeps, leaves, withdrawn, step}
 use Rattle.rules.specs.Record.{slotPriced, goodPrices}
 
@@ -24,9 +25,9 @@ module _ (o : Opening) (h : Holdings) (now : ℤ) (i : ℕ) where
   unfolding step
   on-empty = refl
 
-  pub on-fixed : (a : Answer) (at : ℤ) → step (fixed o h a at) (Withdraw now i) ≡ keeps (Refused 38)
+  pub on-fixed : (r : Order) (a : Answer) (at : ℤ) → step (fixed r o h a at) (Withdraw now i) ≡ keeps (Refused 38)
   unfolding step
-  on-fixed a at = refl
+  on-fixed r a at = refl
 
   pub no-slot : slots (o .terms) ≤ i → step (live o h) (Withdraw now i) ≡ keeps (Refused 40)
   unfolding step

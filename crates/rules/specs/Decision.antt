@@ -1,11 +1,11 @@
--- 01, "Decision (`SettlementState::decide`)".
+-- 01, "Decision (`SettlementState::decide`)", with #109's order of its two partial steps.
 use Prim.Native.Nat.{ℕ, _/_, _%_, _^_}
-use mathlib.Core.Bool.{Bool, not}
+use mathlib.Core.Bool.{Bool, false, not}
 use mathlib.Core.List.{List, [], _∷_}
 use lib.IntN.{ℤ, pos, _+ℤ_}
-use lib.Signed.{ltZ}
+use lib.Signed.{ltZ, leZ}
 use lib.Dec.{ltb, leb}
-use Rattle.rules.specs.Log.{if_then_else_, size, total, Σ<}
+use Rattle.rules.specs.Log.{ε, if_then_else_, size, total, every, Σ<}
 use Rattle.rules.specs.Bytes.{fits}
 use Rattle.rules.specs.Answers.{Result, ok, refused, Method, Answer, Wait, Settle, Refused}
 use Rattle.rules.specs.Terms.{Terms, slots}
@@ -41,6 +41,15 @@ abbrev pub firstOf : List Case → Answer → Answer
 firstOf [] otherwise = otherwise
 firstOf ((test ⇒ a) ∷ cases) otherwise = if test then a else firstOf cases otherwise
 
+-- #109: which of the two partial steps comes first, as it was of old and as the members have voted
+pub data Order : Type 0 where
+  old voted : Order
+
+-- with n slots filled and m links: by the vote the window where it has more prints, else the chain; of old always the chain
+abbrev pub windowFirst : Order → ℕ → ℕ → Bool
+windowFirst Order.old n m = false
+windowFirst Order.voted n m = ltb m n
+
 module _ (t : Terms) (E : ℤ) (c : Candidates) (now : ℤ) where
   -- "H = E + hard"; "n slots filled, m links"
   abbrev pub H : ℤ
@@ -58,19 +67,53 @@ module _ (t : Terms) (E : ℤ) (c : Candidates) (now : ℤ) where
   abbrev pub m : ℕ
   m = size (c .times)
 
-  -- "now < E: Wait E. Then H = E + hard must fit, else 0. In order": 1 (two lines), 2, 3 (two lines), 4, 5
-  abbrev pub steps : List Case
-  steps =
+  -- the step of a chain that is not complete, and that of such a window
+  abbrev pub partialChain : Answer
+  partialChain = from now (maxZ H (c .linkChanged) +ℤ D) (settle e Method.PartialNextPrint (total (c .prices)) m)
+
+  abbrev pub partialWindow : Answer
+  partialWindow = from now (maxZ H (c .windowChanged) +ℤ D) (settle e Method.PartialWindow (c .sum) n)
+
+  -- "now < E: Wait E. Then H = E + hard must fit, else 0. In order": 1 (two lines), 2, 3 and 4 (four lines, the window's once for each turn that it can have), 5
+  abbrev pub steps : Order → List Case
+  steps order =
       ltZ now E ⇒ Wait E
       ∷ not (fits H) ⇒ Refused 0
       ∷ leb (slots t) n ⇒ settle e Method.Window (c .sum) n
       ∷ leb (t .minimum) n ⇒ from now (maxZ E (c .windowChanged) +ℤ D) (settle e Method.Window (c .sum) n)
       ∷ leb (t .k) m ⇒ from now (E +ℤ D) (settle e Method.NextPrint (total (c .prices)) m)
       ∷ ltZ now H ⇒ Wait H
-      ∷ ltb 0 m ⇒ from now (maxZ H (c .linkChanged) +ℤ D) (settle e Method.PartialNextPrint (total (c .prices)) m)
-      ∷ ltb 0 n ⇒ from now (maxZ H (c .windowChanged) +ℤ D) (settle e Method.PartialWindow (c .sum) n)
+      ∷ windowFirst order n m ⇒ partialWindow
+      ∷ ltb 0 m ⇒ partialChain
+      ∷ ltb 0 n ⇒ partialWindow
       ∷ ltb 0 (c .fallbackPrice) ⇒ from now (maxZ H (c .fallbackChanged) +ℤ D) (settle e Method.Fallback (c .fallbackPrice) 1) ∷ []
 
   -- "6. Void from H + D."
-  unfoldable pub decide : Answer
-  decide = firstOf steps (from now (H +ℤ D) Answer.Void)
+  unfoldable pub decideBy : Order → Answer
+  decideBy order = firstOf (steps order) (from now (H +ℤ D) Answer.Void)
+
+  -- #109: the commands and the ledger decide by the vote
+  abbrev pub decide : Answer
+  decide = decideBy Order.voted
+
+  -- #109: where the vote can change the decision: both partial steps apply, nothing stands above them, and the window has more prints
+  abbrev pub outvotedTests : List Bool
+  outvotedTests = ltb 0 m ∷ ltb m n ∷ ltb n (t .minimum) ∷ ltb m (t .k) ∷ leZ H now ∷ []
+
+  abbrev pub outvoted : Bool
+  outvoted = every outvotedTests
+
+-- the same candidates with no link
+abbrev pub withoutChain : Candidates → Candidates
+withoutChain c =
+    record {
+      bits = c .bits;
+      sum = c .sum;
+      times = ε;
+      prices = ε;
+      fallbackTime = c .fallbackTime;
+      fallbackPrice = c .fallbackPrice;
+      windowChanged = c .windowChanged;
+      linkChanged = pos 0;
+      fallbackChanged = c .fallbackChanged;
+    }

@@ -14,6 +14,7 @@ use Rattle.rules.specs.Terms.{goodTerms, slots}
 use Rattle.rules.specs.Prints.{Print, accept}
 use Rattle.rules.specs.Mean.{mean}
 use Rattle.rules.specs.Taking.{Candidates, canonical, links, qualifies, timesFit}
+use Rattle.rules.specs.Decision.{Order}
 use Rattle.rules.specs.Series.{Opening, Command, Open, Offer, Ask, Fix, Withdraw, Holdings, slotPlaces, Series, empty, live, fixed, decided, answer}
 use Rattle.rules.specs.Record.{seriesCount, bytesOf}
 use Rattle.rules.specs.Entries.{Entry, noCommand, command, entry}
@@ -167,10 +168,10 @@ takenEvents j = maybe (events j) (λ z. events (z .ahead)) (freeze j)
 
 -- ---- the series that the ledger says
 
--- "The record is all zero before the opening; then it has the opening's terms, bps and E with these candidates under tag 1, and from the freeze on tag 2 with its outcome and now."
+-- nothing before the opening; then what was opened, open with these candidates; and from the freeze on fixed with its outcome and now, by the vote (#109)
 abbrev pub since : Opening → Holdings → Option Freeze → Series
 since o h none = live o h
-since o h (some z) = fixed o h (decided o (h .candidates) (z .now)) (z .now)
+since o h (some z) = fixed Order.voted o h (decided o (h .candidates) (z .now)) (z .now)
 
 unfoldable pub ledger : Log Command → Series
 ledger j = maybe empty (λ o. since o (holdings o (takenEvents j)) (freeze j)) (opening j)

@@ -10,8 +10,9 @@ use Rattle.rules.specs.Bytes.{Bytes, zeros, allZero, concat, unsignedAt,
 use Rattle.rules.specs.Answers.{Result, ok, refused, Method, number, method, Answer, Opened, Used, Wait, Settle, Done, Refused, final}
 use Rattle.rules.specs.Terms.{goodTerms}
 use Rattle.rules.specs.Taking.{Candidates, bit}
+use Rattle.rules.specs.Decision.{Order}
 use Rattle.rules.specs.State.{Parts, candidatesOf, partsOf, goodState}
-use Rattle.rules.specs.Series.{Opening, Holdings, slotPlaces, Series, empty, live, fixed, decided}
+use Rattle.rules.specs.Series.{Opening, Holdings, slotPlaces, Series, empty, live, fixed, decidedBy}
 
 abbrev pub recordSize : ℕ
 recordSize = 456
@@ -82,17 +83,22 @@ fields tag o s samples number fixingTime price =
 unfoldable pub priceBytes : List ℕ → Bytes
 priceBytes prices = concat (eight (listFrom 0 slotPlaces (λ i. getD prices i 0)))
 
--- under tag 1 with no outcome; under tag 2 with the answer and its time
+-- #109: a fixed record's tag says by which order it was decided
+abbrev pub tagOf : Order → ℕ
+tagOf Order.old = 2
+tagOf Order.voted = 3
+
+-- under tag 1 with no outcome; under its order's tag with the answer and its time
 abbrev pub openRecord : Opening → Parts → List ℕ → Bytes
 openRecord o s prices = concat (fields 1 o s 0 0 (pos 0) 0) ++ priceBytes prices
 
-abbrev pub fixedRecord : Opening → Parts → List ℕ → Answer → ℤ → Bytes
-fixedRecord o s prices a at = concat (fields 2 o s (samplesOf a) (methodOf a) at (priceOf a)) ++ priceBytes prices
+abbrev pub fixedRecord : Order → Opening → Parts → List ℕ → Answer → ℤ → Bytes
+fixedRecord r o s prices a at = concat (fields (tagOf r) o s (samplesOf a) (methodOf a) at (priceOf a)) ++ priceBytes prices
 
 unfoldable pub bytesOf : Series → Bytes
 bytesOf empty = zeros recordSize
 bytesOf (live o h) = openRecord o (partsOf (h .candidates)) (h .slotPrices)
-bytesOf (fixed o h a at) = fixedRecord o (partsOf (h .candidates)) (h .slotPrices) a at
+bytesOf (fixed r o h a at) = fixedRecord r o (partsOf (h .candidates)) (h .slotPrices) a at
 
 -- ---- reading, at 01's offsets
 
@@ -169,12 +175,16 @@ module _ (bs : Bytes) where
   abbrev pub priceIn : ℕ
   priceIn = unsignedAt bs 192 8
 
-  -- "0 tag (0 empty, 1 open, 2 fixed)"
+  -- #109: the order of a fixed record, by its tag
+  abbrev pub orderIn : Order
+  orderIn = if eqb tagIn (tagOf Order.old) then Order.old else Order.voted
+
+  -- "0 tag": 0 an empty series, 1 an open one, and with #109 both 2 and 3 a fixed one
   unfoldable pub seriesIn : Series
   seriesIn =
       if eqb tagIn 0 then empty else
       if eqb tagIn 1 then live openingIn holdingsIn else
-      fixed openingIn holdingsIn (outcome (method methodIn) priceIn samplesIn) fixingTimeIn
+      fixed orderIn openingIn holdingsIn (outcome (method methodIn) priceIn samplesIn) fixingTimeIn
 
   -- ---- the acceptable records
 
@@ -194,16 +204,16 @@ module _ (bs : Bytes) where
   abbrev pub standing : Answer → List Bool
   standing a = final a ∷ outcomeTests (samplesOf a) (methodOf a) (priceOf a)
 
-  -- "Tag 2: the decision at the fixing time is final and is what stands there (Void: method 5, samples and price zero)."
+  -- of a fixed record: the outcome that stands there is the decision at the fixing time (01), by the tag's order (#109)
   abbrev pub fixedTests : List Bool
-  fixedTests = standing (decided openingIn (candidatesOf partsIn) fixingTimeIn)
+  fixedTests = standing (decidedBy orderIn openingIn (candidatesOf partsIn) fixingTimeIn)
 
-  -- "Tag 0: all zero. Above 2: not acceptable."
+  -- "Tag 0: all zero."; #109: 3 is the last tag
   unfoldable pub acceptable : Bool
   acceptable =
       if eqb tagIn 0 then allZero bs else
       if eqb tagIn 1 then every bodyTests && every openTests else
-      if eqb tagIn 2 then every bodyTests && every fixedTests else
+      if leb tagIn 3 then every bodyTests && every fixedTests else
       false
 
 -- the series of a record: "11 the command's own record not acceptable"
@@ -248,4 +258,4 @@ outcomeFits (Refused r) = false
 abbrev pub seriesFits : Series → Bool
 seriesFits empty = true
 seriesFits (live o h) = every (openingFits o ∷ candidatesFit (h .candidates) ∷ pricesFit (h .slotPrices) ∷ [])
-seriesFits (fixed o h a at) = every (openingFits o ∷ candidatesFit (h .candidates) ∷ pricesFit (h .slotPrices) ∷ outcomeFits a ∷ fits at ∷ [])
+seriesFits (fixed r o h a at) = every (openingFits o ∷ candidatesFit (h .candidates) ∷ pricesFit (h .slotPrices) ∷ outcomeFits a ∷ fits at ∷ [])

@@ -11,7 +11,7 @@ use Rattle.rules.specs.Answers.{Result, Answer, Opened, Wait, Done, Refu
 use Rattle.rules.specs.Terms.{Terms, slots, goodTerms}
 use Rattle.rules.specs.Prints.{Print, Quote, accept}
 use Rattle.rules.specs.Taking.{Candidates, bit, vacate, offerAnswer, offerPlaced, offerPriced}
-use Rattle.rules.specs.Decision.{decide}
+use Rattle.rules.specs.Decision.{Order, decideBy, decide}
 
 -- what a series is opened with: the terms, max bps and E
 pub record Opening : Type 0 where
@@ -36,11 +36,11 @@ pub record Holdings : Type 0 where
 abbrev pub slotPlaces : ℕ
 slotPlaces = 32
 
--- a fixed series has its outcome and its fixing time
+-- a fixed series has the order that it was decided by, its outcome and its fixing time
 pub data Series : Type 0 where
   empty : Series
   live : Opening → Holdings → Series
-  fixed : Opening → Holdings → Answer → ℤ → Series
+  fixed : Order → Opening → Holdings → Answer → ℤ → Series
 
 -- "Candidates zero."
 abbrev pub noCandidates : Candidates
@@ -74,6 +74,9 @@ abbrev pub changed : Step → Option Series
 changed (keeps a) = none
 changed (leaves a next) = some next
 
+abbrev pub decidedBy : Order → Opening → Candidates → ℤ → Answer
+decidedBy r o c now = decideBy (o .terms) (o .expiry) c now r
+
 abbrev pub decided : Opening → Candidates → ℤ → Answer
 decided o c now = decide (o .terms) (o .expiry) c now
 
@@ -99,9 +102,9 @@ waiting Answer.Void = Answer.Void
 waiting Done = Done
 waiting (Refused r) = Refused r
 
--- "Stores a Settle or Void with tag 2 and its now as fixing time, and answers it."
+-- a Settle or a Void is kept with its now, and answered; #109: as decided by the vote
 abbrev pub fixing : Opening → Holdings → ℤ → Answer → Step
-fixing o h now a = if final a then leaves a (fixed o h a now) else keeps (waiting a)
+fixing o h now a = if final a then leaves a (fixed Order.voted o h a now) else keeps (waiting a)
 
 -- #103: slot i is empty again, and its price is off the sum
 unfoldable pub withdrawn : Holdings → ℤ → ℕ → Holdings
@@ -127,11 +130,11 @@ step (live o h) (Offer q now) = offered o h now (accept (o .terms .exponent) (o 
 step (live o h) (Ask now) = keeps (decided o (h .candidates) now)
 step (live o h) (Fix now) = fixing o h now (decided o (h .candidates) now)
 step (live o h) (Withdraw now i) = withdrawing o h now i
-step (fixed o h a at) (Open q) = keeps (Refused 36)
-step (fixed o h a at) (Offer q now) = keeps (Refused 38)
-step (fixed o h a at) (Ask now) = keeps a
-step (fixed o h a at) (Fix now) = keeps (Refused 38)
-step (fixed o h a at) (Withdraw now i) = keeps (Refused 38)
+step (fixed r o h a at) (Open q) = keeps (Refused 36)
+step (fixed r o h a at) (Offer q now) = keeps (Refused 38)
+step (fixed r o h a at) (Ask now) = keeps a
+step (fixed r o h a at) (Fix now) = keeps (Refused 38)
+step (fixed r o h a at) (Withdraw now i) = keeps (Refused 38)
 
 abbrev pub answer : Series → Command → Answer
 answer s c = answerOf (step s c)

@@ -11,7 +11,7 @@ use Rattle.rules.specs.Answers.{Result, ok, refused, Answer, Refused, is
 use Rattle.rules.specs.Terms.{Terms, slots, goodTerms}
 use Rattle.rules.specs.Prints.{Print, Quote, goodPrint, eqZ, accept}
 use Rattle.rules.specs.Taking.{Candidates, printAnswer, place, offerAnswer, offerPlaced}
-use Rattle.rules.specs.Decision.{decide}
+use Rattle.rules.specs.Decision.{Order, decideBy}
 
 -- Candidates with their links in five places: how many there are, the times and the prices.
 pub record Parts : Type 0 where
@@ -99,8 +99,9 @@ restore t s =
     if not (goodState t s) then refused 11 else
     ok s
 
-unfoldable pub decideCall : Terms → ℤ → Parts → ℤ → Answer
-decideCall t E s now = checked t s (decide t E (candidatesOf s) now)
+-- #109: by either order
+unfoldable pub decideCall : Order → Terms → ℤ → Parts → ℤ → Answer
+decideCall r t E s now = checked t s (decideBy t E (candidatesOf s) now r)
 
 unfoldable pub addPrintCall : Terms → ℤ → Parts → Print → Answer
 addPrintCall t E s p = checked t s (if not (goodPrint p) then Refused 13 else printAnswer t E (candidatesOf s) p)

@@ -121,4 +121,5 @@ fn main() {
     example(b"hostile_day", b"hostile_day.journal", b"hostile_day.sheet");
     example(b"before_1970", b"before_1970.journal", b"before_1970.sheet");
     example(b"withdraw", b"withdraw.journal", b"withdraw.sheet");
+    example(b"voted", b"voted.journal", b"voted.sheet");
 }

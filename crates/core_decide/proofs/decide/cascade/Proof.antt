@@ -1,5 +1,5 @@
 use Prim.Native.Nat.{ℕ, _<_, _^_}
-use mathlib.Core.Path.{_≡_, sym, _∙_}
+use mathlib.Core.Path.{_≡_, sym}
 use mathlib.Core.Bool.{true, false}
 use native.Mathlib.Omega.{arith}
 use lib.Count as count
@@ -21,6 +21,7 @@ use Rattle.numbers.specs.declared.time.Time.the-variants.{At}
 use Rattle.numbers.proofs.Times.{at-is, at-fits}
 use Rattle.core_terms.specs.Params.{termsOf}
 use Rattle.core_parts.specs.States.{storedOf}
+use Rattle.core_decide.specs.Decisions.{orderOf}
 use Rattle.core_decide.proofs.Counts.{ones-same}
 use Rattle.core_decide.proofs.Steps.{test, sum-is, sum-over, expiry-ahead, no-deadline, full, window, next-print, partials}
 use Rattle.core_decide.proofs.decide.cascade.Statement.{statement}
@@ -72,7 +73,7 @@ returns : tie.Need-returns
 returns c =
     let s = c .before in
     let a = s .args in
-    rw (toZ-ofZ (s .fits .expiry)) (expiry-ahead (terms s) (a .expiry) (candidates s) (a .now) (test true (a .now) (a .expiry) (s .fits .now) (s .fits .expiry) (c .if1 .taken)))
+    rw (toZ-ofZ (s .fits .expiry)) (expiry-ahead (terms s) (a .expiry) (candidates s) (a .now) (orderOf (a .order)) (test true (a .now) (a .expiry) (s .fits .now) (s .fits .expiry) (c .if1 .taken)))
 
 after-requires : tie.Need-after-requires
 after-requires c κs = search needs
@@ -90,7 +91,7 @@ returns-2 c =
     let s = i1 .before in
     let a = s .args in
     let call = c .before .before in
-    no-deadline (terms s) (a .expiry) (candidates s) (a .now) (past i1)
+    no-deadline (terms s) (a .expiry) (candidates s) (a .now) (orderOf (a .order)) (past i1)
     (sum-over (a .expiry) (a .p .«hard_deadline_s») (s .fits .expiry) (call .after .result) (call .after .ensures) (c .enum-told .given .1))
 
 cast-n : tie.Need-cast-n
@@ -114,7 +115,7 @@ returns-3 c =
     let i1 = h .before .before .before in
     let s = i1 .before in
     let a = s .args in
-    full (terms s) (a .expiry) (candidates s) (a .now) (past i1) (hard-is h .0) (filled s) (counted b) (i2 .before .slots .result) (i2 .before .slots .ensures)
+    full (terms s) (a .expiry) (candidates s) (a .now) (orderOf (a .order)) (past i1) (hard-is h .0) (filled s) (counted b) (i2 .before .slots .result) (i2 .before .slots .ensures)
     (expo-fits (c .before)) (i2 .if2 .taken) (c .settle .ensures)
 
 later-requires : tie.Need-later-requires
@@ -134,7 +135,7 @@ returns-4 c =
     let i1 = h .before .before .before in
     let s = i1 .before in
     let a = s .args in
-    window (terms s) (a .expiry) (candidates s) (a .now) (past i1) (hard-is h .0) (filled s) (counted b) (i2 .before .slots .result) (i2 .before .slots .ensures)
+    window (terms s) (a .expiry) (candidates s) (a .now) (orderOf (a .order)) (past i1) (hard-is h .0) (filled s) (counted b) (i2 .before .slots .result) (i2 .before .slots .ensures)
     (i2 .if2 .left) (s .fits .expiry) (s .fits .now)
     (l .later .result) (window-fits (l .before)) (l .later .ensures) (omega (arith, i3 .if3 .taken)) (c .settle-from .ensures)
 
@@ -152,7 +153,7 @@ returns-5 c =
     let i1 = h .before .before .before in
     let s = i1 .before in
     let a = s .args in
-    next-print (terms s) (a .expiry) (candidates s) (a .now) (past i1) (hard-is h .0) (filled s) (counted b) (i2 .before .slots .result) (i2 .before .slots .ensures)
+    next-print (terms s) (a .expiry) (candidates s) (a .now) (orderOf (a .order)) (past i1) (hard-is h .0) (filled s) (counted b) (i2 .before .slots .result) (i2 .before .slots .ensures)
     (i2 .if2 .left) (s .fits .expiry) (s .fits .now) (i3 .if3 .left) (a .s .«next_len») (links s) (i4 .if4 .taken) (c .chain-from .ensures)
 
 partial-requires : tie.Need-partial-requires
@@ -170,7 +171,7 @@ returns-6 c =
     let s = i1 .before in
     let a = s .args in
     let fh = at-fits (h .hard .given .0 .0) (deadline s) (answered h) in
-    partials (terms s) (a .expiry) (candidates s) (a .now) (past i1) (hard-is h .0) (filled s) (counted b) (i2 .before .slots .result) (i2 .before .slots .ensures)
+    partials (terms s) (a .expiry) (candidates s) (a .now) (orderOf (a .order)) (past i1) (hard-is h .0) (filled s) (counted b) (i2 .before .slots .result) (i2 .before .slots .ensures)
     (i2 .if2 .left) (s .fits .expiry) (s .fits .now) (i3 .if3 .left) (a .s .«next_len») (links s) (i4 .if4 .left)
     (c .partial .ensures (a .expiry) (rw toZ-ofZ (hard-is h .1)) (counted b))
 

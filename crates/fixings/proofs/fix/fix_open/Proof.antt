@@ -1,6 +1,7 @@
 use mathlib.Core.Path.{_≡_, sym, ap, _∙_}
 use native.Mathlib.Omega.{arith}
 use mir.Facts.{toZ-ofZ}
+use Rattle.rules.specs.Decision.{voted}
 use Rattle.rules.specs.State.{decideCall}
 use Rattle.rules.specs.Record.{openingIn, partsIn}
 use Rattle.rules.specs.Book.{recordAt}
@@ -50,7 +51,7 @@ same-length c = search needs
 
 -- what was answered is the core's call on the record
 called : (c : tie.After-decide-in)
-    → decideCall (openingIn (recordAt (c .before .before .before .before .args .series) (c .before .before .before .before .args .book .now)) .terms) (openingIn (recordAt (c .before .before .before .before .args .series) (c .before .before .before .before .args .book .now)) .expiry) (partsIn (recordAt (c .before .before .before .before .args .series) (c .before .before .before .before .args .book .now))) (c .before .before .before .before .args .now)
+    → decideCall voted (openingIn (recordAt (c .before .before .before .before .args .series) (c .before .before .before .before .args .book .now)) .terms) (openingIn (recordAt (c .before .before .before .before .args .series) (c .before .before .before .before .args .book .now)) .expiry) (partsIn (recordAt (c .before .before .before .before .args .series) (c .before .before .before .before .args .book .now))) (c .before .before .before .before .args .now)
     ≡ decisionOf (c .decide-in .result)
 called c =
     let a = c .before .before .before .before .args in

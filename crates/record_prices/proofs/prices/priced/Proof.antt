@@ -1,8 +1,13 @@
 -- The loop's invariant: the slots passed have no price.
-use Prim.Native.Nat.{_≤_}
-use mathlib.Core.Path.{refl, sym, _∙_}
+use Prim.Native.Nat.{ℕ, _+_, _*_, _≤_}
+use mathlib.Core.Path.{_≡_, refl, sym, ap, _∙_}
 use native.Mathlib.Omega.{arith}
+use lib.Dec.{eqb}
+use lib.Bits.{bitOr}
+use borrow.Author.Tests.{eq-eqb, eqb-true}
+use Rattle.rules.proofs.Bools.{both, either-zero}
 use Rattle.rules.proofs.Bytes.{are-bytes}
+use Rattle.rules.specs.Bytes.{Bytes, unsignedAt}
 use Rattle.record_prices.specs.Left.{Left}
 use Rattle.record_prices.proofs.Left.{left-none, left-next}
 use borrow.Author.Needs.{needs}
@@ -10,43 +15,64 @@ use Rattle.record_prices.proofs.prices.priced.Statement.{statement}
 use Rattle.record_prices.proofs.prices.priced.Tie as tie
 
 abbrev Inv-loop : tie.InvT-loop
-Inv-loop bytes n₀ n = (n ≤ 32) × Left bytes n 0 0
+Inv-loop bytes pairs₀ pairs = (pairs ≤ 16) × Left bytes (2 * pairs) 0 0
 
 abbrev μ-loop : tie.MeasureT-loop
-μ-loop bytes n₀ n = n
+μ-loop bytes pairs₀ pairs = pairs
 
-cast-n : tie.Need-cast-n Inv-loop μ-loop
-cast-n c = omega arith
+-- a pair more, where both of it are zero
+next : (bs : Bytes) (pairs fewer lower upper : ℕ) → pairs ≡ fewer + 1 → lower ≡ unsignedAt bs (200 + 16 * fewer) 8 → upper ≡ unsignedAt bs (200 + 16 * fewer + 8) 8
+    → bitOr lower upper ≡ 0 → Left bs (2 * pairs) 0 0 → Left bs (2 * fewer) 0 0
+next bs pairs fewer lower upper e l u z left =
+    let (x, y) = both (eqb lower 0) (eqb upper 0) (sym (either-zero lower upper) ∙ eq-eqb (bitOr lower upper) 0 z) in
+    let low : 0 ≡ unsignedAt bs (200 + 8 * (2 * fewer)) 8 = sym (eqb-true lower 0 x) ∙ l ∙ ap (λ (k : ℕ). unsignedAt bs k 8) (omega arith) in
+    let up : 0 ≡ unsignedAt bs (200 + 8 * (2 * fewer + 1)) 8 = sym (eqb-true upper 0 y) ∙ u ∙ ap (λ (k : ℕ). unsignedAt bs k 8) (omega arith) in
+    left-next bs (2 * fewer + 1) (2 * fewer) 0 0 0 0 0 (left-next bs (2 * pairs) (2 * fewer + 1) 0 0 0 0 0 left (omega (arith, e)) up refl refl) refl low refl refl
+
+cast-pairs : tie.Need-cast-pairs Inv-loop μ-loop
+cast-pairs c = omega arith
 
 loop-holds : tie.Need-loop-holds Inv-loop μ-loop
 loop-holds c = (omega arith, left-none (c .before .args .bytes .now) (are-bytes (c .before .args .bytes .now) (c .shared-slice-known .given)))
 
-sub-u64-at : tie.Need-sub-u64-at Inv-loop μ-loop
-sub-u64-at c = omega arith
+sub-at : tie.Need-sub-at Inv-loop μ-loop
+sub-at c = omega arith
 
-mul-u64-at : tie.Need-mul-u64-at Inv-loop μ-loop
-mul-u64-at c = omega arith
+mul-at : tie.Need-mul-at Inv-loop μ-loop
+mul-at c = omega arith
 
-add-u64-at : tie.Need-add-u64-at Inv-loop μ-loop
-add-u64-at c = omega arith
+add-at : tie.Need-add-at Inv-loop μ-loop
+add-at c = omega arith
 
 u64-at-requires : tie.Need-u64-at-requires Inv-loop μ-loop
 u64-at-requires c κs = search needs
 
-returns : tie.Need-returns Inv-loop μ-loop
-returns c = c .before .before .before .loop .inv .1
+add-u64-at : tie.Need-add-u64-at Inv-loop μ-loop
+add-u64-at c = omega arith
 
-sub-n : tie.Need-sub-n Inv-loop μ-loop
-sub-n c = omega arith
+u64-at-requires-2 : tie.Need-u64-at-requires-2 Inv-loop μ-loop
+u64-at-requires-2 c κs = search needs
+
+mul-result : tie.Need-mul-result Inv-loop μ-loop
+mul-result c = omega arith
+
+returns : tie.Need-returns Inv-loop μ-loop
+returns c = c .before .before .before .before .loop .inv .1
+
+sub-pairs : tie.Need-sub-pairs Inv-loop μ-loop
+sub-pairs c = omega arith
 
 loop-less : tie.Need-loop-less Inv-loop μ-loop
 loop-less c = omega arith
 
 loop-again : tie.Need-loop-again Inv-loop μ-loop
 loop-again c =
-    let l = c .before .before .before .loop in
-    let bs = c .before .before .before .before .before .args .bytes .now in
-    (omega arith, left-next bs (l .n) _ 0 0 0 0 0 (l .inv .1) (omega arith) (sym (c .if1 .left) ∙ c .before .u64-at .ensures) refl refl)
+    let l = c .before .before .before .before .loop in
+    let bs = c .before .before .before .before .before .before .args .bytes .now in
+    (omega arith, next bs (l .pairs) _ _ _ (omega arith) (c .before .before .u64-at .ensures) (c .before .u64-at2 .ensures) (c .if1 .left) (l .inv .1))
+
+mul-result-2 : tie.Need-mul-result-2 Inv-loop μ-loop
+mul-result-2 c = omega arith
 
 returns-2 : tie.Need-returns-2 Inv-loop μ-loop
 returns-2 c = c .before .loop .inv .1
@@ -57,14 +83,18 @@ priced-spec =
     (tie.spec
     Inv-loop
     μ-loop
-    cast-n
+    cast-pairs
     loop-holds
-    sub-u64-at
-    mul-u64-at
-    add-u64-at
+    sub-at
+    mul-at
+    add-at
     u64-at-requires
+    add-u64-at
+    u64-at-requires-2
+    mul-result
     returns
-    sub-n
+    sub-pairs
     loop-less
     loop-again
+    mul-result-2
     returns-2)

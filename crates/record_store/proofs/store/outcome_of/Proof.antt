@@ -1,4 +1,6 @@
 use mir.Facts.{toZ-ofZ}
+use Rattle.rules.specs.Decision.{voted}
+use Rattle.rules.specs.Record.{tagOf}
 use borrow.Author.Needs.{needs}
 use Rattle.record_store.proofs.store.outcome_of.Statement.{statement}
 use Rattle.record_store.proofs.store.outcome_of.Tie as tie
@@ -25,17 +27,17 @@ returns : tie.Need-returns
 returns c =
     let g = c .before .before .before .d .given in
     let f = c .before .before .before .before .before .fits .fixing-time in
-    rw (g .1) (λ i. record { tag = 2; samples = g .0 .1 .1 .0; method = c .before .number .ensures i; «fixing_time» = toZ-ofZ f i; price = c .get .ensures i })
+    rw (g .1) (λ i. record { tag = tagOf voted; samples = g .0 .1 .1 .0; method = c .before .number .ensures i; «fixing_time» = toZ-ofZ f i; price = c .get .ensures i })
 
 returns-2 : tie.Need-returns-2
 returns-2 c =
     let f = c .before .before .before .fits .fixing-time in
-    rw (c .before .enum-told .given .1) (λ i. record { tag = 2; samples = 0; method = c .number2 .ensures i; «fixing_time» = toZ-ofZ f i; price = 0 })
+    rw (c .before .enum-told .given .1) (λ i. record { tag = tagOf voted; samples = 0; method = c .number2 .ensures i; «fixing_time» = toZ-ofZ f i; price = 0 })
 
 returns-3 : tie.Need-returns-3
 returns-3 c =
     let f = c .before .before .fits .fixing-time in
-    rw (c .enum-told2 .given .1) (λ i. record { tag = 2; samples = 0; method = 0; «fixing_time» = toZ-ofZ f i; price = 0 })
+    rw (c .enum-told2 .given .1) (λ i. record { tag = tagOf voted; samples = 0; method = 0; «fixing_time» = toZ-ofZ f i; price = 0 })
 
 pub outcome-of-spec : {M : Type 1} → statement M
 outcome-of-spec =

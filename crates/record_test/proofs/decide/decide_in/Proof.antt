@@ -13,16 +13,22 @@ returns c = sym (no-decision (c .before .before .args .bytes .now) (c .before .b
 read-contents-requires : tie.Need-read-contents-requires
 read-contents-requires c κs = search needs
 
-decide-requires : tie.Need-decide-requires
-decide-requires c κs = search needs
+order-in-requires : tie.Need-order-in-requires
+order-in-requires c κs = search needs
+
+decide-by-requires : tie.Need-decide-by-requires
+decide-by-requires c κs = search needs
 
 returns-2 : tie.Need-returns-2
 returns-2 c =
-    let f = c .before .before .before .before .before .fits .now in
-    let h = c .before .before .read-contents .ensures ∙ contents-whole (c .before .before .before .before .before .args .bytes .now) (c .before .before .before .if1 .left) in
-    (simp toZ-ofZ at (c .decide .ensures))
-    ∙ (λ i. decideCall (h i .opening .terms) (h i .opening .expiry) (h i .parts) (c .before .before .before .before .before .args .now))
-    ∙ sym (decision-of (c .before .before .before .before .before .args .bytes .now) (c .before .before .before .before .before .args .now) (c .before .before .before .if1 .left))
+    let r = c .before .before .before in
+    let s = r .before .before .before in
+    let a = s .args in
+    let f = s .fits .now in
+    let h = r .read-contents .ensures ∙ contents-whole (a .bytes .now) (r .before .if1 .left) in
+    (simp toZ-ofZ at (c .decide-by .ensures))
+    ∙ (λ i. decideCall (c .before .order-in .ensures i) (h i .opening .terms) (h i .opening .expiry) (h i .parts) (a .now))
+    ∙ sym (decision-of (a .bytes .now) (a .now) (r .before .if1 .left))
 
 pub decide-in-spec : {M : Type 1} → statement M
-decide-in-spec = tie.close (tie.spec returns read-contents-requires decide-requires returns-2)
+decide-in-spec = tie.close (tie.spec returns read-contents-requires order-in-requires decide-by-requires returns-2)

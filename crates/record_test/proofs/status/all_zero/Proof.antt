@@ -9,8 +9,8 @@ use lib.Seq.{drop-drop}
 use lib.Dec.{eqb}
 use borrow.Author.Needs.{needs}
 use Rattle.rules.specs.Bytes.{Bytes, allZero, unsignedAt}
-use Rattle.rules.proofs.Bools.{and-assoc}
-use Rattle.record_test.proofs.Statuses.{word-and-rest, either-zero, last-word}
+use Rattle.rules.proofs.Bools.{and-assoc, either-zero}
+use Rattle.record_test.proofs.Statuses.{word-and-rest, last-word}
 use Rattle.record_test.proofs.status.all_zero.Statement.{statement}
 use Rattle.record_test.proofs.status.all_zero.Tie as tie
 

@@ -36,14 +36,14 @@ returns-3 : tie.Need-returns-3
 returns-3 c =
     let t = c .before in
     let bs = t .before .before .before .args .bytes .now in
-    sym (rw (some-tag t, lt-ltb 2 (tagIn bs) (omega (arith, t .before .u8-at .ensures, c .if3 .taken))))
+    sym (rw (some-tag t, lt-ltb 3 (tagIn bs) (omega (arith, t .before .u8-at .ensures, c .if3 .taken))))
 
 u24-at-requires : tie.Need-u24-at-requires
 u24-at-requires c κs = search needs
 
--- nor above 2
-low-tag : (c : tie.Else3) → ltb 2 (tagIn (c .before .before .before .before .args .bytes .now)) ≡ false
-low-tag c = let t = c .before in le-ltb 2 (tagIn (t .before .before .before .args .bytes .now)) (omega (arith, t .before .u8-at .ensures, c .if3 .left))
+-- nor above 3
+low-tag : (c : tie.Else3) → ltb 3 (tagIn (c .before .before .before .before .args .bytes .now)) ≡ false
+low-tag c = let t = c .before in le-ltb 3 (tagIn (t .before .before .before .args .bytes .now)) (omega (arith, t .before .u8-at .ensures, c .if3 .left))
 
 returns-4 : tie.Need-returns-4
 returns-4 c =
@@ -75,7 +75,7 @@ priced c = passed (tested (c .before)) (c .if5 .left)
 no-outcome-requires : tie.Need-no-outcome-requires
 no-outcome-requires c κs = search needs
 
--- of tag 1
+-- of an open record
 returns-6 : tie.Need-returns-6
 returns-6 c =
     let o = c .before .before in
@@ -95,7 +95,7 @@ returns-7 c =
 is-fixed-requires : tie.Need-is-fixed-requires
 is-fixed-requires c κs = search needs
 
--- of tag 2
+-- of a fixed record
 returns-8 : tie.Need-returns-8
 returns-8 c =
     let o = c .before .before in
