@@ -1,7 +1,7 @@
 -- The steps of the decision, over plain numbers: where the tests ahead of a step fail and its own passes, its answer is the decision.
 use Prim.Native.Nat.{ℕ, _+_, _*_, _^_, _≤_, _<_}
 use mathlib.Core.Path.{_≡_, refl, sym, _∙_}
-use mathlib.Core.Bool.{Bool, true, false, not, _&&_}
+use mathlib.Core.Bool.{Bool, true, false, not}
 use native.Mathlib.Omega.{arith}
 use native.Mathlib.Nat.{zero-add}
 use borrow.Author.Tests.{not-true, lt-ltb, le-ltb, le-leb, lt-leb}
@@ -24,7 +24,7 @@ use Rattle.numbers.specs.declared.time.Time.the-variants.{At, Overflow}
 use Rattle.numbers.proofs.Times.{over-is, later-fits}
 use Rattle.core_decide.specs.declared.decide.Due.{Due}
 use Rattle.core_decide.specs.declared.decide.Due.the-variants as U
-use Rattle.core_decide.specs.Decisions.{dueOf, decideFrom}
+use Rattle.core_decide.specs.Decisions.{chainFirst, dueOf, decideFrom}
 
 -- A time and an exponent as the machine hands them on, in bits. They fit, so nothing is lost.
 abbrev sent : ℤ → ℤ
@@ -102,12 +102,8 @@ module _ (t : Terms) (E : ℤ) (c : Candidates) (now : ℤ) (r : Order) where
               simp (past, fit, ← filled, ← links, ← counted, lt-leb all n gaps, lt-leb (t .minimum) n few, lt-leb (t .k) m l)
               (simp (toZ-ofZ, ← filled, ← links) at q)
 
--- whether the chain has its turn, with n slots filled and m links
-abbrev pub turn : Order → ℕ → ℕ → Bool
-turn r n m = ltb 0 m && not (windowFirst r n m)
-
--- where it has not, and the window is not ahead, there is no link
-no-link : (r : Order) (n m : ℕ) → turn r n m ≡ false → windowFirst r n m ≡ false → ltb 0 m ≡ false
+-- where the chain is passed over, and the window is not ahead, there is no link
+no-link : (r : Order) (n m : ℕ) → chainFirst r n m ≡ false → windowFirst r n m ≡ false → ltb 0 m ≡ false
 no-link r n m over after = rw (after, and-true) at over
 
 -- a window with no more prints than the chain is not ahead, whatever the order
@@ -121,7 +117,7 @@ module _ (t : Terms) (E : ℤ) (c : Candidates) (now h : ℤ) (r : Order) (deadl
   deadline-ahead p = rw (← deadline, p)
 
   module _ (past : ltZ now h ≡ false) (fh : SFits w64 h) (fn : SFits w64 now) (m : ℕ) (links : m ≡ size (c .times)) (n : ℕ) (filled : n ≡ ones (c .bits)) {a : Answer} where
-    pub partial-print : (T : ℤ) → SFits w64 (c .linkChanged) → T ≡ maxZ (sent h) (sent (c .linkChanged)) → turn r n m ≡ true
+    pub partial-print : (T : ℤ) → SFits w64 (c .linkChanged) → T ≡ maxZ (sent h) (sent (c .linkChanged)) → chainFirst r n m ≡ true
         → a ≡ from (sent now) (sent T +ℤ pos (t .delay)) (settle (t .exponent) Method.PartialNextPrint (total (c .prices)) m)
         → a ≡ decideFrom 5 t E c now r
     partial-print T fc e l q =
@@ -130,7 +126,7 @@ module _ (t : Terms) (E : ℤ) (c : Candidates) (now h : ℤ) (r : Order) (deadl
         let (some, after) = both (ltb 0 m) (not (windowFirst r n m)) l in
         simp (← deadline, past, ← links, ← filled, not-true (windowFirst r n m) after, some, ← k) (simp toZ-ofZ at q)
 
-    module _ (over : turn r n m ≡ false) where
+    module _ (over : chainFirst r n m ≡ false) where
       pub partial-window : (T : ℤ) → SFits w64 (c .windowChanged) → T ≡ maxZ (sent h) (sent (c .windowChanged)) → 0 < n
           → a ≡ from (sent now) (sent T +ℤ pos (t .delay)) (settle (t .exponent) Method.PartialWindow (c .sum) n)
           → a ≡ decideFrom 5 t E c now r

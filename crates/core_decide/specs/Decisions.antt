@@ -1,11 +1,13 @@
 -- Methods, decisions and orders, read as the rules' methods, answers and orders.
 use Prim.Native.Nat.{ℕ}
+use mathlib.Core.Bool.{Bool, not, _&&_}
 use lib.IntN.{ℤ, _+ℤ_}
 use lib.ListN.{drop}
+use lib.Dec.{ltb}
 use Rattle.rules.specs.Answers as R
 use Rattle.rules.specs.Terms.{Terms}
 use Rattle.rules.specs.Taking.{Candidates}
-use Rattle.rules.specs.Decision.{H, D, steps, firstOf, from}
+use Rattle.rules.specs.Decision.{H, D, windowFirst, steps, firstOf, from}
 use Rattle.rules.specs.Decision as Q
 use Rattle.core_terms.specs.Errors.{numberOf}
 use Rattle.core_decide.specs.declared.decide.SettleMethod.{SettleMethod}
@@ -45,6 +47,10 @@ decisionOf (A.Err e) = R.Refused (numberOf e)
 abbrev pub orderOf : Order → Q.Order
 orderOf O.Old = Q.Order.old
 orderOf O.Voted = Q.Order.voted
+
+-- whether the chain's partial step is taken, with n slots filled and m links: there is a link, and the window is not ahead
+abbrev pub chainFirst : Q.Order → ℕ → ℕ → Bool
+chainFirst r n m = ltb 0 m && not (windowFirst r n m)
 
 -- the answer of a step that answers a once its time has come
 abbrev pub dueOf : Due → R.Answer → R.Answer

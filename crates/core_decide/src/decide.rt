@@ -1,17 +1,15 @@
 // The settlement cascade: what a series' candidates settle at, and from when.
 ghost use mathlib.Core.Path.{_≡_};
-ghost use mathlib.Core.Bool.{not, _&&_};
 ghost use Prim.Native.Nat.{_+_, _*_, _^_, _≤_};
-ghost use lib.Dec.{ltb};
 ghost use lib.IntN.{ℤ, pos, _+ℤ_};
 ghost use Rattle.rules.specs.Log.{front, total};
 ghost use Rattle.rules.specs.Answers.{Answer, number, method};
-ghost use Rattle.rules.specs.Decision.{ones, settle, from, voted, windowFirst, decideBy};
+ghost use Rattle.rules.specs.Decision.{ones, settle, from, voted, decideBy};
 ghost use Rattle.rules.specs.State.{candidatesOf, decideCall};
 ghost use Rattle.numbers.specs.Wides.{wideOf};
 ghost use Rattle.core_terms.specs.Params.{termsOf};
 ghost use Rattle.core_parts.specs.States.{storedOf};
-ghost use Rattle.core_decide.specs.Decisions.{methodOf, methodResultOf, decisionOf, orderOf, dueOf, decideFrom};
+ghost use Rattle.core_decide.specs.Decisions.{methodOf, methodResultOf, decisionOf, orderOf, chainFirst, dueOf, decideFrom};
 use core_parts::state::SettlementParts;
 use core_prices::mean::PriceResult;
 use core_prices::mean::to_atoms;
@@ -219,7 +217,7 @@ fn void_from(p: OracleParams, t: i64, now: i64) -> DecisionResult
 
 // Whether the chain has its turn, with n slots filled: there is a link, and the window is not ahead.
 fn chain_first(links: u8, n: u16, order: Order) -> bool
-    ensures { λ r. ⌜ r ≡ ltb 0 links && not (windowFirst (orderOf order) n links) ⌝ }
+    ensures { λ r. ⌜ r ≡ chainFirst (orderOf order) n links ⌝ }
 {
     if links == 0 {
         return false;

@@ -71,8 +71,8 @@ module _ (t : Terms) (E : ℤ) (c : Candidates) (now : ℤ) where
       go true b₂ b₃ b₄ b₅ e₁ e₂ e₃ e₄ e₅ = rw e₁
       go false true b₃ b₄ b₅ e₁ e₂ e₃ e₄ e₅ = rw e₂
       go false false true b₄ b₅ e₁ e₂ e₃ e₄ e₅ = rw e₃
-      go false false false false b₅ e₁ e₂ e₃ e₄ e₅ = rw e₄
-      go false false false true false e₁ e₂ e₃ e₄ e₅ = rw (e₄, e₅, lt-ltb 0 N (omega (arith, first-more N M e₄)))
+      go false false false false b₅ e₁ e₂ e₃ e₄ e₅ = rw (e₃, e₄)
+      go false false false true false e₁ e₂ e₃ e₄ e₅ = rw (e₃, e₄, e₅, lt-ltb 0 N (omega (arith, first-more N M e₄)))
       go false false false true true e₁ e₂ e₃ e₄ e₅ = absurd (not-both {b = outvoted t E c now}
           (rw (lt-ltb M N (first-more N M e₄), e₅, lt-ltb N (t .minimum) (leb-false (t .minimum) N e₁), lt-ltb M (t .k) (leb-false (t .k) M e₂), lt-false now h e₃)) o)
 

@@ -74,6 +74,7 @@ abbrev pub changed : Step → Option Series
 changed (keeps a) = none
 changed (leaves a next) = some next
 
+-- the decision on a series that was opened so; #109: by an order, and by the vote
 abbrev pub decidedBy : Order → Opening → Candidates → ℤ → Answer
 decidedBy r o c now = decideBy (o .terms) (o .expiry) c now r
 

@@ -14,8 +14,8 @@ use Rattle.rules.specs.Terms.{Terms}
 use Rattle.rules.proofs.Logs.{size-front}
 use Rattle.core_terms.specs.Params.{termsOf}
 use Rattle.core_parts.specs.States.{storedOf}
-use Rattle.core_decide.specs.Decisions.{orderOf}
-use Rattle.core_decide.proofs.Steps.{test, turn, deadline-ahead, partial-print, partial-window, fallback, void}
+use Rattle.core_decide.specs.Decisions.{orderOf, chainFirst}
+use Rattle.core_decide.proofs.Steps.{test, deadline-ahead, partial-print, partial-window, fallback, void}
 use Rattle.core_decide.proofs.decide.partial.Statement.{statement}
 use Rattle.core_decide.proofs.decide.partial.Tie as tie
 
@@ -41,7 +41,7 @@ fallback-fits c = search needs
 past : (c : tie.Else1) → ltZ (c .before .args .now) (c .before .args .hard) ≡ false
 past c = let s = c .before in test false (s .args .now) (s .args .hard) (s .fits .now) (s .fits .hard) (c .if1 .left)
 
-passed-over : (c : tie.Else2) → turn (orderOf (c .before .before .before .args .order)) (c .before .before .before .args .n) (c .before .before .before .args .s .«next_len») ≡ false
+passed-over : (c : tie.Else2) → chainFirst (orderOf (c .before .before .before .args .order)) (c .before .before .before .args .n) (c .before .before .before .args .s .«next_len») ≡ false
 passed-over c = sym (c .before .chain-first .ensures) ∙ c .if2 .left
 
 returns : tie.Need-returns
