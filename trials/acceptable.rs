@@ -1,6 +1,6 @@
-//! 01's "Record" with #103 and #109 once more: whether 456 bytes are acceptable, written from the text and not from the
-//! code. The outcome of a fixed record is worked out here too, by the order of its tag; of the core it takes the mean
-//! alone.
+//! 01's "Record" with #103, #109 and #111 once more: whether 456 bytes are acceptable, and which conditions of #111 they
+//! break, written from the texts and not from the code. The outcome of a fixed record is worked out here too, by the
+//! order of its tag; of the core it takes the mean alone.
 use metalbook_core::to_atoms;
 
 fn unsigned(b: &[u8], at: usize, width: usize) -> u128 {
@@ -108,7 +108,7 @@ fn outcome(b: &[u8], now: i128, is_voted: bool) -> Option<(u8, u64, u32)> {
 /// 01 of tag 1: "samples, method, fixing time and price zero". Of a fixed record: "the decision at the fixing time is
 /// final and is what stands there (Void: method 5, samples and price zero)". #109: by the old order under tag 2, by the
 /// voted one under tag 3, and no tag above.
-pub fn is_acceptable(b: &[u8]) -> bool {
+pub fn keeps_old_conditions(b: &[u8]) -> bool {
     let (samples, method, price) = (unsigned(b, 10, 2) as u32, b[36], unsigned(b, 192, 8) as u64);
     let has_good_body = || unsigned(b, 37, 3) == 0 && has_good_terms(b) && has_good_state(b) && has_good_prices(b);
     match b[0] {
@@ -117,4 +117,70 @@ pub fn is_acceptable(b: &[u8]) -> bool {
         tag @ (2 | 3) => has_good_body() && outcome(b, signed(b, 184, 8), tag == 3) == Some((method, price, samples)),
         _ => false,
     }
+}
+
+// ---- #111
+
+/// #111's conditions, each by what breaks it. The first slot and the others are apart, and so are the places of the
+/// links' prices. The last one follows from the rest: where E − window or E − lookback does not fit, E is below 1, and
+/// so are every boundary and each time up to E. No record breaks it alone.
+pub const CONDITIONS: [&str; 17] = [
+    "a link not after E",
+    "a link with E below 1",
+    "the first slot before 2",
+    "a later slot before 2",
+    "a fallback before E - lookback",
+    "a fallback after E",
+    "a fallback before 2",
+    "a slot price from 2^63",
+    "link price 0 from 2^63",
+    "link price 1 from 2^63",
+    "link price 2 from 2^63",
+    "link price 3 from 2^63",
+    "link price 4 from 2^63",
+    "a fallback price from 2^63",
+    "link changed without a link",
+    "fallback changed without a fallback",
+    TIME_OUT_OF_RANGE,
+];
+
+pub const TIME_OUT_OF_RANGE: &str = "a candidate where a time does not fit";
+
+/// Whether each of them holds.
+fn held(b: &[u8]) -> [bool; 17] {
+    let [window, slot, lookback] = [12, 16, 24].map(|at| unsigned(b, at, 4) as i128);
+    let [e, fallback, link_changed, fallback_changed] = [40, 144, 168, 176].map(|at| signed(b, at, 8));
+    let (bits, links) = (unsigned(b, 32, 4), usize::from(b[3]).min(5));
+    let is_price = |at: usize| unsigned(b, at, 8) < 1 << 63;
+    let is_late = |i: i128| bits & 1 << i == 0 || 2 <= e - window + i * slot;
+    let (has_link, has_fallback) = (links > 0, unsigned(b, 152, 8) != 0);
+    let fits = |time: i128| -(1 << 63) <= time;
+    [
+        (0..links).all(|i| e < signed(b, 64 + 8 * i, 8)),
+        !has_link || 1 <= e,
+        is_late(0),
+        (1..32).all(is_late),
+        !has_fallback || e - lookback <= fallback,
+        !has_fallback || fallback <= e,
+        !has_fallback || 2 <= fallback,
+        (0..32).all(|i| is_price(200 + 8 * i)),
+        is_price(104),
+        is_price(112),
+        is_price(120),
+        is_price(128),
+        is_price(136),
+        is_price(152),
+        has_link || link_changed == 0,
+        has_fallback || fallback_changed == 0,
+        bits == 0 && !has_link && !has_fallback || fits(e - window) && fits(e - lookback),
+    ]
+}
+
+/// Those that a record breaks which keeps the old conditions; an empty one breaks none.
+pub fn broken(b: &[u8]) -> Vec<&'static str> {
+    CONDITIONS.into_iter().zip(held(b)).filter(|(_, is_held)| !is_held).map(|(name, _)| name).collect()
+}
+
+pub fn is_acceptable(b: &[u8]) -> bool {
+    keeps_old_conditions(b) && held(b) == [true; 17]
 }

@@ -20,6 +20,11 @@ pub const OFFER_WIDTH: usize = 46;
 pub const ASK_WIDTH: usize = 10;
 pub const WITHDRAW_WIDTH: usize = 11;
 
+/// A print comes with its price as an i64, and the one before it at 1 or later. So where it fills a slot the boundary,
+/// and where it is the fallback its own time, is at least 2.
+const GREATEST_PRICE: u64 = i64::MAX as u64;
+const FIRST_TIME: i64 = 2;
+
 /// The refusals that a book gives by itself.
 const NOT_ACCEPTABLE: u8 = CoreError::InvariantViolated as u8;
 const UNKNOWN_COMMAND: u8 = 32;
@@ -173,6 +178,40 @@ fn has_good_prices(record: &[u8; RECORD], parts: &SettlementParts) -> bool {
     bits == parts.filled_slots && total == parts.sample_sum
 }
 
+// #111: what every print leaves that a command has taken. A slot, a link or a fallback where E − window or E − lookback
+// does not fit needs no test of its own: E is then far below 1, and each is refused for that. So a time that does not
+// fit may as well be the least that does.
+
+/// No price is above a print's: of a greater one the highest bit is set.
+fn has_low_prices(record: &[u8; RECORD], parts: &SettlementParts) -> bool {
+    let slots = (0..SLOTS).fold(0, |bits, slot| bits | slot_price(record, slot));
+    let links = parts.next_prices.iter().fold(0, |bits, price| bits | price);
+    slots | links | parts.fallback_price <= GREATEST_PRICE
+}
+
+/// Boundaries rise with the slots, so the first filled one has the least.
+fn has_good_slots(params: &OracleParams, expiry: i64, parts: &SettlementParts) -> bool {
+    let first = i64::from(parts.filled_slots.trailing_zeros());
+    let start = expiry.saturating_sub(i64::from(params.window_s()));
+    parts.filled_slots == 0 || FIRST_TIME <= start.saturating_add(first * i64::from(params.slot_s()))
+}
+
+/// `restore` sees to it that the times rise, so the first link has the least.
+fn has_good_links(expiry: i64, parts: &SettlementParts) -> bool {
+    if parts.next_len == 0 {
+        return parts.next_print_changed == 0;
+    }
+    1 <= expiry && expiry < parts.next_times[0]
+}
+
+fn has_good_fallback(params: &OracleParams, expiry: i64, parts: &SettlementParts) -> bool {
+    if parts.fallback_price == 0 {
+        return parts.fallback_changed == 0;
+    }
+    let earliest = expiry.saturating_sub(i64::from(params.fallback_lookback_s())).max(FIRST_TIME);
+    (earliest..=expiry).contains(&parts.fallback_time)
+}
+
 fn read_outcome(record: &[u8; RECORD]) -> Outcome {
     Outcome {
         method: record[36],
@@ -191,15 +230,20 @@ fn read_series(record: &[u8; RECORD]) -> Option<Series> {
     }
     let params = read_params(record).ok()?;
     let parts = read_parts(record);
-    if !has_good_prices(record, &parts) {
+    let expiry = i64::from_le_bytes(at(record, 40));
+    let is_good = has_good_prices(record, &parts)
+        && has_low_prices(record, &parts)
+        && has_good_slots(&params, expiry, &parts)
+        && has_good_links(expiry, &parts)
+        && has_good_fallback(&params, expiry, &parts);
+    if !is_good {
         return None;
     }
     let Ok(state) = SettlementState::restore(&params, parts) else {
         return None;
     };
     let max_conf_bps = u16::from_le_bytes(at(record, 8));
-    let expiry = UnixTimestamp::new(i64::from_le_bytes(at(record, 40)));
-    Some(Series { params, max_conf_bps, expiry, state })
+    Some(Series { params, max_conf_bps, expiry: UnixTimestamp::new(expiry), state })
 }
 
 /// The decision at the fixing time, computed again by the order of the tag, where it is final and is what stands in the

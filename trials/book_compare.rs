@@ -1,13 +1,13 @@
-//! Compares the proved book with the Rust's: hostile journals, records that are not acceptable, records fixed by either
-//! order, books of other lengths.
+//! Compares the proved book with the Rust's: hostile journals, records that are not acceptable or just are, records
+//! fixed by either order, books of other lengths.
 use super::acceptable::is_acceptable;
 use super::book::{BOOK, OLD_BOOK, RECORD, rust_command};
 use super::by_hand::{contests, damaged_records, full_windows, moved_prices, orders, tags};
-use super::journals::{Mood, change_field, each_command, fields, move_price, next, planted, zeroed};
+use super::journals::{Mood, change_field, each_command, fields, loose, move_price, next, planted, zeroed};
 use super::kinds::{Seen, kind, own_record};
 use super::record::high_half;
 use super::slots::{self, Past};
-use super::{Given, Random, give, hex, lanternfold_command, vote};
+use super::{Given, Random, brought, give, hex, lanternfold_command, vote};
 use std::collections::BTreeMap;
 
 /// Both sides' books, which are equal before each command, and what was found.
@@ -24,10 +24,14 @@ struct Trial {
     different: u64,
     /// Commands on acceptable records, and on others.
     records: [u64; 2],
-    /// Settlements by the chain, by the high half of its total.
-    by_chain: [u64; 5],
+    /// Settlements by the chain, by the high half of its total: five prices below 2^63 have no greater one than 2.
+    by_chain: [u64; 3],
     /// Decisions on open series that must be the core's own, and those that the vote changes.
     decisions: [u64; 2],
+    /// Whether the book has grown from a zeroed one by commands; how many commands found a record of such a book, and
+    /// how many of these were refused with 11.
+    is_grown: bool,
+    on_grown: [u64; 2],
 }
 
 impl Trial {
@@ -43,8 +47,10 @@ impl Trial {
             tried: 0,
             different: 0,
             records: [0; 2],
-            by_chain: [0; 5],
+            by_chain: [0; 3],
             decisions: [0; 2],
+            is_grown: false,
+            on_grown: [0; 2],
         }
     }
 
@@ -56,6 +62,13 @@ impl Trial {
         }
         self.entries.clear();
         self.past.clear();
+        self.is_grown = false;
+    }
+
+    /// Begins a journal on a zeroed book: no command on it may be refused with 11.
+    fn begin_zeroed(&mut self) {
+        self.begin(&zeroed());
+        self.is_grown = true;
     }
 
     /// Gives the entry to both sides, and says whether nothing is wrong. Else the journal must end.
@@ -95,6 +108,9 @@ impl Trial {
             let wrong = ["by the text the record is not acceptable", "by the text the record is acceptable"];
             return Some(wrong[usize::from(is_good)]);
         }
+        if self.is_grown && ours.0 == 11 {
+            return Some("a record that commands left from a zeroed book is refused");
+        }
         if !slots::are_as_due(record, after, entry, ours) {
             return Some("by #103's text the slots are left otherwise");
         }
@@ -112,11 +128,18 @@ impl Trial {
     /// Counts what there is to count of an answer beside its kind.
     fn count(&mut self, record: &[u8], entry: &[u8], rust: Given, is_good: bool) {
         self.records[usize::from(!is_good)] += 1;
+        if self.is_grown {
+            self.on_grown[0] += 1;
+            self.on_grown[1] += u64::from(rust.0 == 11);
+        }
         if rust.0 == 252 && matches!(rust.1[0], 1 | 2) {
-            self.by_chain[high_half(&link_prices(record))] += 1;
+            let high = high_half(&link_prices(record));
+            assert!(high < self.by_chain.len(), "the prices of a chain: {}", hex(record));
+            self.by_chain[high] += 1;
         }
         self.past.marks(record, entry, rust).iter().for_each(|mark| self.seen.add(mark));
         vote::marks(record, entry, is_good).iter().for_each(|mark| self.seen.add(mark));
+        brought::marks(record, entry, rust.0).iter().for_each(|mark| self.seen.add(mark));
     }
 
     /// Whether all but the own record of a command that stores something is as it was. Takes that record over.
@@ -190,10 +213,9 @@ impl Kept {
 /// Journals from a zeroed book; the records that they leave are kept.
 fn journals(trial: &mut Trial, random: &mut Random, commands: u64) -> Kept {
     let mut kept = Kept::default();
-    let zeroed = zeroed();
     let end = trial.tried + commands;
     while trial.tried < end {
-        trial.begin(&zeroed);
+        trial.begin_zeroed();
         let mood = Mood::new(random);
         for _ in 0..10 + random.below(100) {
             let entry = next(random, &trial.rust, mood, &trial.entries);
@@ -238,6 +260,15 @@ fn wrong_tags(trial: &mut Trial, random: &mut Random, count: u32) {
             book[0] = tag;
             each_on(trial, random, &book, 0);
         }
+    }
+}
+
+/// So many records that keep all conditions from before #111, and its own only by chance.
+fn loose_records(trial: &mut Trial, random: &mut Random, count: u32) {
+    let mut book = zeroed();
+    for _ in 0..count {
+        book[..RECORD].copy_from_slice(&loose(random));
+        each_on(trial, random, &book, 0);
     }
 }
 
@@ -319,7 +350,7 @@ fn told(trial: &mut Trial, random: &mut Random, record: &[u8; RECORD], is_good: 
 /// Both partial candidates in each way: the answers are also held to those worked out by hand.
 fn contests_by_hand(trial: &mut Trial) {
     for contest in contests() {
-        trial.begin(&zeroed());
+        trial.begin_zeroed();
         for (entry, given) in contest {
             assert_eq!(give(rust_command, &mut trial.rust.clone(), &entry), given, "a contest: {}", hex(&entry));
             if !trial.both(entry) {
@@ -327,6 +358,17 @@ fn contests_by_hand(trial: &mut Trial) {
             }
         }
     }
+}
+
+/// Records that break one condition of #111 or stand at its edge.
+fn brought_by_hand(trial: &mut Trial, random: &mut Random) {
+    let cases = brought::cases();
+    for case in &cases {
+        case.check();
+        told(trial, random, &case.record, case.broken.is_empty());
+    }
+    let good = cases.iter().filter(|case| case.broken.is_empty()).count();
+    println!("book: {} records by hand for #111, {good} of them acceptable", cases.len());
 }
 
 /// Entries that could be refused for two reasons, records that break one condition, records under each tag, and windows
@@ -348,7 +390,7 @@ fn by_hand(trial: &mut Trial, random: &mut Random) {
     }
     contests_by_hand(trial);
     for entries in full_windows() {
-        trial.begin(&zeroed());
+        trial.begin_zeroed();
         for (entry, code) in entries {
             assert_eq!(give(rust_command, &mut trial.rust.clone(), &entry).0, code, "a full window: {}", hex(&entry));
             trial.both(entry);
@@ -380,13 +422,17 @@ pub fn compare(random: &mut Random) -> bool {
     records.extend((0..40).map(|_| planted(random)));
     damaged(&mut trial, random, &records);
     wrong_tags(&mut trial, random, 2_000);
+    loose_records(&mut trial, random, 40_000);
     all_alike(&mut trial, random, &records);
     by_hand(&mut trial, random);
+    brought_by_hand(&mut trial, random);
     other_lengths(&mut trial, random, &records);
     println!(
         "book: {} commands tried, {} different; {} on acceptable records, {} on others",
         trial.tried, trial.different, trial.records[0], trial.records[1]
     );
+    let [grown, refused] = trial.on_grown;
+    println!("book: {grown} on records that commands left from a zeroed book, {refused} of them refused with 11");
     let [own, changed] = trial.decisions;
     println!("book: {own} decisions on open series held to the core's own, {changed} that the vote changes");
     println!("book: settled by the chain, by the high half of its total: {:?}", trial.by_chain);

@@ -2,16 +2,17 @@
 //! format.
 use super::acceptable::is_acceptable;
 use super::book::{BOOK, OLD_BOOK, RECORD, rust_command};
+use super::brought::Case;
 use super::by_hand::{
     EXPIRY, MAX_CONF_BPS, TERMS, contests, damaged_records, few_tags, full_windows, moved_prices, orders, print,
 };
 use super::journals::{
-    Mood, ask_entry, change_field, each_command, fields, fix_entry, next, offer_entry, open_entry, planted,
+    Mood, ask_entry, change_field, each_command, fields, fix_entry, loose, next, offer_entry, open_entry, planted,
     withdraw_entry, zeroed,
 };
 use super::kinds::{Seen, kind, own_record};
 use super::slots::Past;
-use super::{BEFORE, Given, Random, give, vote};
+use super::{BEFORE, Given, Random, brought, give, vote};
 
 /// A journal: the book at its start, and the entries with their answers.
 struct Journal {
@@ -37,6 +38,7 @@ impl Journal {
         if let Some(record) = before {
             self.kinds.extend(self.past.marks(&record, &entry, given).iter().map(|mark| mark.to_string()));
             self.kinds.extend(vote::marks(&record, &entry, is_acceptable(&record)));
+            self.kinds.extend(brought::marks(&record, &entry, given.0));
         }
         self.entries.push(entry);
         self.answers.push(given);
@@ -172,19 +174,32 @@ fn contests_by_hand(sample: &mut Sample) {
     }
 }
 
-/// Records under each tag, with one command of each kind on each.
-fn tags_by_hand(random: &mut Random, sample: &mut Sample) {
-    for some in few_tags().chunks(12) {
+/// Records of which it is said whether they are acceptable, with one command of each kind on each.
+fn told(random: &mut Random, sample: &mut Sample, records: &[([u8; RECORD], bool)]) {
+    for some in records.chunks(12) {
         let mut book = zeroed();
         book.chunks_mut(RECORD).zip(some).for_each(|(place, (record, _))| place.copy_from_slice(record));
         let mut journal = Journal::on(book);
         for (series, (_, is_good)) in some.iter().enumerate() {
             for entry in each_command(random, &journal.book, series as u8) {
-                assert_eq!(journal.give(entry).0 != 11, *is_good, "a record under a tag");
+                assert_eq!(journal.give(entry).0 != 11, *is_good, "whether a record is acceptable");
             }
         }
         sample.keep(&journal);
     }
+}
+
+/// Records that break one condition of #111, or stand at its edge.
+fn brought_by_hand(random: &mut Random) -> Vec<([u8; RECORD], bool)> {
+    let cases = brought::few_cases(random);
+    cases.iter().for_each(Case::check);
+    cases.iter().map(|case| (case.record, case.broken.is_empty())).collect()
+}
+
+/// Records that keep all conditions from before #111, and its own only by chance.
+fn loose_records(random: &mut Random) -> Vec<([u8; RECORD], bool)> {
+    let records = (0..24).map(|_| loose(random));
+    records.map(|record| (record, is_acceptable(&record))).collect()
 }
 
 /// A journal of hostile entries on this book.
@@ -246,7 +261,11 @@ pub fn record(path: &str, random: &mut Random) -> bool {
     full_by_hand(&mut sample);
     damaged_by_hand(&mut sample);
     contests_by_hand(&mut sample);
-    tags_by_hand(random, &mut sample);
+    told(random, &mut sample, &few_tags());
+    let brought = brought_by_hand(random);
+    told(random, &mut sample, &brought);
+    let loose = loose_records(random);
+    told(random, &mut sample, &loose);
     damaged(random, &mut sample);
     // Journals that have much of what is short come first.
     for least in [16, 12, 8, 4, 2, 1] {

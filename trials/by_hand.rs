@@ -129,6 +129,9 @@ const FIXED_CHANGES: [(usize, usize, u64); 14] = [
     (448, 8, 1),
 ];
 
+/// The greatest price of a print, in a record.
+const DEAR: u64 = i64::MAX as u64;
+
 /// What is put into the same record at once, as the bits, the sum and the prices of slots, and whether it is acceptable
 /// then.
 struct Move {
@@ -139,7 +142,7 @@ struct Move {
 }
 
 /// The record has the bits 0b1001 and the price 200,003 at the slots 0 and 3.
-const MOVES: [Move; 17] = [
+const MOVES: [Move; 21] = [
     // The same total, split otherwise.
     Move { bits: 0b1001, sum: 400_006, prices: &[(0, 1), (3, 400_005)], is_good: true },
     Move { bits: 0b1001, sum: 400_006, prices: &[(0, 0), (3, 400_006)], is_good: false },
@@ -156,11 +159,15 @@ const MOVES: [Move; 17] = [
     Move { bits: 0, sum: 0, prices: &[(0, 0), (3, 0)], is_good: true },
     // A sum that is one off, and one whose low half alone is right.
     Move { bits: 0b1001, sum: 400_007, prices: &[], is_good: false },
-    Move { bits: 0b1001, sum: 400_006, prices: &[(0, u64::MAX), (3, 400_007)], is_good: false },
-    Move { bits: 0b1001, sum: (1 << 64) + 400_006, prices: &[(0, u64::MAX), (3, 400_007)], is_good: true },
-    // Prices that no print has.
-    Move { bits: 0b1001, sum: 1 << 64, prices: &[(0, 1 << 63), (3, 1 << 63)], is_good: true },
-    Move { bits: 0b1001, sum: (1 << 65) - 2, prices: &[(0, u64::MAX), (3, u64::MAX)], is_good: true },
+    Move { bits: 0b1011, sum: 3, prices: &[(0, DEAR), (1, DEAR), (3, 5)], is_good: false },
+    Move { bits: 0b1011, sum: (1 << 64) + 3, prices: &[(0, DEAR), (1, DEAR), (3, 5)], is_good: true },
+    // The greatest price of a print, and prices that no print has.
+    Move { bits: 0b1001, sum: (1 << 64) - 2, prices: &[(0, DEAR), (3, DEAR)], is_good: true },
+    Move { bits: 0b1001, sum: (1 << 64) - 1, prices: &[(0, DEAR), (3, 1 << 63)], is_good: false },
+    Move { bits: 0b1001, sum: (1 << 64) - 1, prices: &[(0, 1 << 63), (3, DEAR)], is_good: false },
+    Move { bits: 0b1001, sum: 1 << 64, prices: &[(0, 1 << 63), (3, 1 << 63)], is_good: false },
+    Move { bits: 0b1001, sum: (1 << 64) + 400_006, prices: &[(0, u64::MAX), (3, 400_007)], is_good: false },
+    Move { bits: 0b1001, sum: (1 << 65) - 2, prices: &[(0, u64::MAX), (3, u64::MAX)], is_good: false },
 ];
 
 fn number(record: &[u8], at: usize, width: usize) -> u64 {
@@ -223,7 +230,7 @@ pub fn damaged_records() -> Vec<[u8; RECORD]> {
 
 /// A window of 32 slots of a second each, and the greatest price of a print.
 const FULL_TERMS: Terms = (32, 1, 0, 16, 5, 5, 60, 100, -7);
-const GREATEST: i64 = i64::MAX;
+const GREATEST: i64 = DEAR as i64;
 
 /// Journals with their codes: all 32 slots are filled with the greatest price, then all but one withdrawn, in rising,
 /// falling or mixed order. The sum has each high half from 15 down to 0 on the way.

@@ -1,8 +1,9 @@
 //! Hostile journals: each entry is chosen by what the book holds, at the few seconds where an answer changes.
+use super::acceptable::is_acceptable;
 use super::book::{BOOK, OFFER_WIDTH, Order, RECORD, SLOT_PRICES, SLOTS, Series, put_slot_price};
 use super::record::{self, TERMS, Terms, params, terms_bytes};
-use super::{BPS, Random, TIMES, confidences};
-use metalbook_core::UnixTimestamp;
+use super::{BPS, Random, TIMES, confidences, hex};
+use metalbook_core::{OracleParams, SettlementParts, UnixTimestamp};
 
 // ---- entries
 
@@ -380,20 +381,20 @@ pub fn each_command(random: &mut Random, book: &[u8], series: u8) -> [Vec<u8>; 5
 
 // ---- records that stand in the book at the start
 
-/// Prices above zero for so many slots. Their total is this sum where it can be, so that a mean just fits or just does
-/// not; else they are at an end of their range, or near the greatest price of a print.
-fn slot_prices(random: &mut Random, sum: u128, slots: u32) -> Vec<u64> {
-    let (n, greatest) = (u128::from(slots), u128::from(u64::MAX));
-    let mut prices: Vec<u64> = if n <= sum && sum <= n * greatest {
+/// Prices above zero and up to the greatest for so many slots. Their total is this sum where it can be, so that a mean
+/// just fits or just does not; else they are at an end of their range, or near the greatest price of a print.
+fn slot_prices(random: &mut Random, sum: u128, slots: u32, greatest: u64) -> Vec<u64> {
+    let n = u128::from(slots);
+    let mut prices: Vec<u64> = if n <= sum && sum <= n * u128::from(greatest) {
         let (each, rest) = (sum / n, sum % n);
         (0..n).map(|i| (each + u128::from(i < rest)) as u64).collect()
     } else {
-        let top = random.pick(&[1 << 63, 1 << 63, u64::MAX, 3]);
+        let top = random.pick(&[1 << 63, 1 << 63, greatest, 3]).min(greatest);
         (0..slots).map(|_| top - random.below(3)).collect()
     };
     // From one slot to another, as much as both can bear.
     let [from, to] = [0; 2].map(|_| random.below(u64::from(slots)) as usize);
-    let most = (prices[from] - 1).min(u64::MAX - prices[to]);
+    let most = (prices[from] - 1).min(greatest - prices[to]);
     let moved = random.pick(&[0, 1, most / 2, most]).min(most);
     prices[from] -= moved;
     prices[to] += moved;
@@ -401,21 +402,19 @@ fn slot_prices(random: &mut Random, sum: u128, slots: u32) -> Vec<u64> {
 }
 
 /// The prices of all 32 slots, for these bits.
-fn all_slot_prices(random: &mut Random, sum: u128, bits: u32) -> [u64; SLOTS] {
+fn all_slot_prices(random: &mut Random, sum: u128, bits: u32, greatest: u64) -> [u64; SLOTS] {
     let mut all = [0; SLOTS];
     if bits != 0 {
-        let prices = slot_prices(random, sum, bits.count_ones());
+        let prices = slot_prices(random, sum, bits.count_ones(), greatest);
         let filled = (0..SLOTS).filter(|i| bits >> i & 1 == 1);
         filled.zip(prices).for_each(|(i, price)| all[i] = price);
     }
     all
 }
 
-/// An acceptable record, open or fixed by either order, that a list of prints need not leave: the state is any that
-/// `restore` takes with slot prices for its sum.
-pub fn planted(random: &mut Random) -> [u8; RECORD] {
-    let mut s = record::series(random);
-    let prices = all_slot_prices(random, s.parts.sample_sum, s.parts.filled_slots);
+/// The record of a series, open or fixed by either order, with slot prices up to the greatest in place of its sum.
+fn written(random: &mut Random, mut s: record::Series, greatest: u64) -> [u8; RECORD] {
+    let prices = all_slot_prices(random, s.parts.sample_sum, s.parts.filled_slots, greatest);
     s.parts.sample_sum = prices.iter().map(|price| u128::from(*price)).sum();
     let max_conf_bps = random.pick(&BPS);
     let series = Series { params: s.terms, max_conf_bps, expiry: UnixTimestamp::new(s.expiry), state: s.state() };
@@ -428,6 +427,73 @@ pub fn planted(random: &mut Random) -> [u8; RECORD] {
     bytes
 }
 
+/// The greatest price of a print.
+const GREATEST: u64 = i64::MAX as u64;
+
+/// An expiry as ever, or the least with which some slot, a link or a fallback can be there.
+fn least_expiry(random: &mut Random, t: &OracleParams) -> i64 {
+    let [window, slot, lookback] = [t.window_s(), t.slot_s(), t.fallback_lookback_s()].map(i64::from);
+    let later = random.below(u64::from(t.slots())) as i64;
+    let least = [1, 2, 3, 2 + window, 2 + window - later * slot, 2 + lookback];
+    if random.below(4) == 0 { random.pick(&least) } else { record::expiry(random, t) }
+}
+
+/// Links at rising times after E, some of them long after.
+fn put_links(random: &mut Random, s: &mut record::Series) {
+    let k = s.terms.k_next_print();
+    let most = random.pick(&[0, 0, 1, k - 1, k]);
+    let is_dear = random.below(6) == 0;
+    let mut last = s.expiry;
+    for i in 0..if s.expiry < 1 { 0 } else { usize::from(most) } {
+        let room = i64::MAX - last;
+        if room == 0 {
+            break;
+        }
+        let step = random.pick(&[1, 1, 1, 2, 1000, room / 2, room]).clamp(1, room);
+        last += step;
+        let price = random.pick(&[1, 200_000, 200_001, 200_003, GREATEST - 1, GREATEST]);
+        s.parts.next_times[i] = last;
+        s.parts.next_prices[i] = if is_dear { GREATEST - random.below(2) } else { price };
+        s.parts.next_len += 1;
+    }
+}
+
+/// A fallback from E - lookback to E, and not before 2.
+fn put_fallback(random: &mut Random, s: &mut record::Series) {
+    let (from, to) = (s.earliest().max(2), s.expiry);
+    if to < from || random.below(4) == 0 {
+        return;
+    }
+    s.parts.fallback_time = random.pick(&[from, from, from + (to - from) / 2, to, to]);
+    s.parts.fallback_price = random.pick(&[1, 200_000, GREATEST / 5, GREATEST - 1, GREATEST]);
+}
+
+/// An acceptable record, open or fixed by either order, that a list of prints need not leave: times and prices are any
+/// that each print could have, whatever the others have.
+pub fn planted(random: &mut Random) -> [u8; RECORD] {
+    let terms = record::terms(random);
+    let mut s = record::Series { terms, parts: SettlementParts::default(), expiry: least_expiry(random, &terms) };
+    let early: u32 = (0..terms.slots()).filter(|i| s.boundary(*i) < 2).map(|i| 1 << i).sum();
+    s.parts.filled_slots = record::filled(random, terms.slots()) & !early;
+    s.parts.sample_sum = record::sum(random, s.parts.filled_slots, terms.expo());
+    put_links(random, &mut s);
+    put_fallback(random, &mut s);
+    let [window, link, fallback] = [0; 3].map(|_| record::changed(random, &s));
+    s.parts.window_changed = window;
+    s.parts.next_print_changed = if s.parts.next_len == 0 { 0 } else { link };
+    s.parts.fallback_changed = if s.parts.fallback_price == 0 { 0 } else { fallback };
+    let record = written(random, s, GREATEST);
+    assert!(is_acceptable(&record), "a planted record: {}", hex(&record));
+    record
+}
+
+/// A record that keeps every condition from before #111: the state is any that `restore` takes, with slot prices for its
+/// sum. Most of them break some of #111's.
+pub fn loose(random: &mut Random) -> [u8; RECORD] {
+    let s = record::series(random);
+    written(random, s, u64::MAX)
+}
+
 /// The first byte and the width of each field; bytes 37 to 39 one by one.
 pub fn fields() -> Vec<(usize, usize)> {
     let mut starts = vec![0, 1, 2, 3, 4, 6, 8, 10, 12, 16, 20, 24, 28, 32, 36, 37, 38, 39];
@@ -435,7 +501,8 @@ pub fn fields() -> Vec<(usize, usize)> {
     starts.windows(2).map(|w| (w[0], w[1] - w[0])).collect()
 }
 
-/// Sets a field to one more or less, to an end of its range, or to what stands before it, or turns a bit over.
+/// Sets a field to one more or less, to an end of its range, or to what stands before it, or turns a bit over. A field
+/// of eight bytes also to where #111's conditions change: to one beside E, E - lookback, 2 or 2^63.
 pub fn change_field(random: &mut Random, bytes: &mut [u8], (at, width): (usize, usize)) {
     let number = |from: usize| {
         let mut wide = [0; 8];
@@ -444,7 +511,10 @@ pub fn change_field(random: &mut Random, bytes: &mut [u8], (at, width): (usize, 
     };
     let (now, before) = (number(at), number(at.saturating_sub(width)));
     let one_bit = 1 << random.below(8 * width as u64);
-    let to = random.pick(&[now.wrapping_add(1), now.wrapping_sub(1), 0, 1, u64::MAX, before, now ^ one_bit]);
+    let v = View::of(bytes);
+    let edge = random.pick(&[v.expiry, v.earliest(), 2, i64::MIN]).wrapping_sub(random.below(3) as i64 - 1) as u64;
+    let plain = random.pick(&[now.wrapping_add(1), now.wrapping_sub(1), 0, 1, u64::MAX, before, now ^ one_bit]);
+    let to = if width == 8 && random.below(2) == 0 { edge } else { plain };
     bytes[at..at + width].copy_from_slice(&to.to_le_bytes()[..width]);
 }
 

@@ -3,11 +3,11 @@
 use super::book::{
     ASK_WIDTH, Answer, BOOK, OFFER_WIDTH, OPEN_WIDTH, RECORD, SLOT_PRICES, SLOTS, WITHDRAW_WIDTH, command,
 };
-use super::{Given, vote};
+use super::{Given, brought, hex, vote};
 use std::collections::BTreeMap;
 
-/// Every kind but those that `vote` counts, and how many of it the sample has at least.
-const KINDS: [(&str, u32); 81] = [
+/// Every kind but those that `vote` and `brought` count, and how many of it the sample has at least.
+const KINDS: [(&str, u32); 78] = [
     ("refused 35", 20),
     ("refused 33: empty", 6),
     ("refused 32", 10),
@@ -33,9 +33,6 @@ const KINDS: [(&str, u32); 81] = [
     ("offer Used link", 40),
     ("offer Used fallback", 30),
     ("offer Used slot, fallback", 40),
-    ("offer Used slot, link", 4),
-    ("offer Used link, fallback", 4),
-    ("offer Used slot, link, fallback", 4),
     ("ask refused 33", 6),
     ("ask refused 34", 6),
     ("ask refused 11", 20),
@@ -138,8 +135,13 @@ fn refused(record: &[u8], entry: &[u8], number: u8) -> String {
     format!("refused {number}{why}")
 }
 
-fn used(numbers: [u64; 3]) -> String {
-    let names = [(numbers[0] != 255, "slot"), (numbers[1] != 255, "link"), (numbers[2] != 0, "fallback")];
+/// The uses of a print. A link's is published after E, a slot's before it and a fallback's not after it, and by #111 no
+/// record stands otherwise.
+fn used(record: &[u8], entry: &[u8], numbers: [u64; 3]) -> String {
+    let [slot, link, fallback] = numbers;
+    let is_other = slot != 255 || fallback != 0;
+    assert!(link == 255 || !is_other, "a link with another use: {}, on {}", hex(entry), hex(record));
+    let names = [(slot != 255, "slot"), (link != 255, "link"), (fallback != 0, "fallback")];
     let uses: Vec<&str> = names.iter().filter(|n| n.0).map(|n| n.1).collect();
     format!("Used {}", uses.join(", "))
 }
@@ -168,7 +170,7 @@ pub fn kind(record: Option<&[u8]>, entry: &[u8], given: Given) -> String {
     };
     let answer = match code {
         255 => "Opened".into(),
-        254 => used(numbers),
+        254 => used(record, entry, numbers),
         253 => wait(record, numbers[0] as i64).into(),
         252 => format!("Settle {}", METHODS[numbers[0] as usize]),
         251 => "Void".into(),
@@ -210,7 +212,7 @@ pub struct Seen {
 impl Seen {
     pub fn new() -> Self {
         let plain = KINDS.iter().map(|(name, least)| (name.to_string(), *least));
-        let kinds: Vec<(String, u32)> = plain.chain(vote::kinds()).collect();
+        let kinds: Vec<(String, u32)> = plain.chain(vote::kinds()).chain(brought::kinds()).collect();
         let names = kinds.iter().map(|kind| kind.0.clone()).collect();
         let counts = kinds.into_iter().map(|(name, least)| (name, Count { least, seen: 0 })).collect();
         Self { names, counts }

@@ -4,6 +4,7 @@ mod book;
 mod book_bench;
 mod book_compare;
 mod book_record;
+mod brought;
 mod by_hand;
 mod examples;
 mod journals;

@@ -127,7 +127,7 @@ impl Series {
         self.expiry.saturating_sub(i64::from(self.terms.window_s()))
     }
 
-    fn earliest(&self) -> i64 {
+    pub fn earliest(&self) -> i64 {
         self.expiry.saturating_sub(i64::from(self.terms.fallback_lookback_s()))
     }
 
@@ -135,7 +135,7 @@ impl Series {
         self.expiry.saturating_add(i64::from(self.terms.hard_deadline_s()))
     }
 
-    fn boundary(&self, i: u32) -> i64 {
+    pub fn boundary(&self, i: u32) -> i64 {
         self.start().saturating_add(i64::from(i) * i64::from(self.terms.slot_s()))
     }
 
@@ -320,7 +320,7 @@ pub fn params(t: Terms) -> Result<OracleParams, CoreError> {
     OracleParams::try_new(t.0, t.1, t.2, t.3, t.4, t.5, t.6, t.7, t.8)
 }
 
-fn terms(random: &mut Random) -> OracleParams {
+pub fn terms(random: &mut Random) -> OracleParams {
     params(random.pick(&TERMS)).expect("good terms")
 }
 
@@ -348,14 +348,14 @@ pub fn expiry(random: &mut Random, t: &OracleParams) -> i64 {
     if random.below(3) > 0 { plain } else { random.pick(&edges).saturating_sub(random.below(2) as i64) }
 }
 
-fn filled(random: &mut Random, slots: u32) -> u32 {
+pub fn filled(random: &mut Random, slots: u32) -> u32 {
     let all = u32::MAX >> (32 - slots);
     let one = 1 << random.below(u64::from(slots));
     let some = random.next() as u32 & all;
     random.pick(&[0, 0, one, all, all & !one, some])
 }
 
-fn sum(random: &mut Random, bits: u32, expo: i8) -> u128 {
+pub fn sum(random: &mut Random, bits: u32, expo: i8) -> u128 {
     if bits == 0 {
         return 0;
     }
@@ -404,7 +404,7 @@ fn fallback(random: &mut Random, s: &mut Series) {
     s.parts.fallback_price = if time == 0 { 0 } else { random.pick(&[1, 200_000, u64::MAX / 10, u64::MAX]) };
 }
 
-fn changed(random: &mut Random, s: &Series) -> i64 {
+pub fn changed(random: &mut Random, s: &Series) -> i64 {
     let delay = i64::from(s.terms.challenge_delay_s());
     let at = random.pick(&[0, s.expiry, s.hard(), s.hard(), i64::MIN, i64::MAX - delay, i64::MAX]);
     at.saturating_add(random.below(3) as i64 - 1)

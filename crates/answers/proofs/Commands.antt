@@ -12,8 +12,10 @@ use Rattle.rules.specs.Terms.{goodTerms}
 use Rattle.rules.specs.Decision.{Order, voted}
 use Rattle.rules.specs.State.{Parts, candidatesOf, partsOf, goodState, decideCall}
 use Rattle.rules.specs.Series.{Command, Opening, Holdings, Series, live}
+use Rattle.rules.specs.Brought.{leftByPrints}
 use Rattle.rules.specs.Record.{goodPrices, openingIn, partsIn, pricesIn, holdingsIn}
 use Rattle.rules.specs.Book.{recordAt, look, storedAnswer, written}
+use Rattle.rules.proofs.Bools.{both}
 use Rattle.rules.proofs.State.{parts-kept}
 use Rattle.core_decide.specs.declared.decide.Decision.{Decision}
 use Rattle.core_decide.specs.declared.decide.Decision.the-variants as N
@@ -24,7 +26,7 @@ use Rattle.record_read.specs.Records.{Held, contentsFrom}
 use Rattle.record_test.specs.Statuses.{statusAs, statusIn, storedAt, decisionIn}
 use Rattle.book.proofs.Looks.{partAt, part-is, allowed-part}
 use Rattle.record_read.proofs.Records.{contents-looked}
-use Rattle.record_test.proofs.Statuses.{untested-priced, untested-voted, status-found, isRefused, not-refused, looked, decision-of}
+use Rattle.record_test.proofs.Statuses.{untested-left, untested-voted, status-found, isRefused, not-refused, looked, decision-of}
 use Rattle.answers.specs.Commands.{Untested, answerAt, afterAt, bookAnswer}
 
 -- a decision is no refusal
@@ -76,7 +78,7 @@ module _ (book : Bytes) (s : ℕ) (h : Untested book s) where
 
   -- its slot prices were tested
   pub open-priced : goodPrices (holdingsIn bs) ≡ true
-  open-priced = untested-priced bs (sym (looked book s may-look) ∙ h)
+  open-priced = both (goodPrices (holdingsIn bs)) (leftByPrints (openingIn bs) (holdingsIn bs)) (untested-left bs (sym (looked book s may-look) ∙ h)) .0
 
   -- its state goes back into the same bytes
   pub open-kept : goodState (openingIn bs .terms) (partsIn bs) ≡ true → partsOf (candidatesOf (partsIn bs)) ≡ partsIn bs

@@ -4,35 +4,19 @@ use mathlib.Core.Path.{_≡_, refl, fun-ext}
 use mathlib.Core.Bool.{Bool, true, false, _&&_}
 use mathlib.Core.Option.{none, some}
 use mathlib.Core.List.{[], _∷_}
-use lib.ListN.{length, drop}
+use lib.ListN.{length}
 use lib.Dec.{ltb, eqb}
-use borrow.Author.Tests.{lt-ltb}
 use Rattle.rules.proofs.Bools.{both, every-at}
 use Rattle.rules.proofs.Logs.{all-mono, all-put}
-use Rattle.rules.proofs.Bytes.{drop-bytes, little-below, signed-fits}
+use Rattle.rules.proofs.Bytes.{unsigned-fits, signed-fits-8, signed-fits-1}
 use Rattle.rules.proofs.Series.{inRange, after-ledger}
 use Rattle.rules.proofs.Fields.{commandFits}
 use Rattle.rules.specs.Log.{Log, ε, _▹_, if_then_else_, maybe, put, all}
-use Rattle.rules.specs.Bytes.{Bytes, areBytes, unsignedAt, signedAt, fitsUnsigned, fitsSigned, fits}
+use Rattle.rules.specs.Bytes.{Bytes, areBytes, unsignedAt, fitsUnsigned, fits}
 use Rattle.rules.specs.Series.{Command, Open, Offer, Ask, Fix, Withdraw, Series, after}
 use Rattle.rules.specs.Record.{seriesCount, openingFits}
 use Rattle.rules.specs.Entries.{Entry, noCommand, command, openingAt, quoteAt, nowAt, slotAt, ofWidth, entry}
 use Rattle.rules.specs.Ledger.{ledger, commandTo, commandsTo, ledgers}
-
--- ---- fields of bytes fit
-
-pub unsigned-fits : (bs : Bytes) (i n : ℕ) → areBytes bs ≡ true → fitsUnsigned n (unsignedAt bs i n) ≡ true
-unfolding unsignedAt
-unsigned-fits bs i n h = lt-ltb _ _ (little-below n (drop i bs) (drop-bytes i bs h))
-
--- a time in eight bytes, an exponent in one
-signed-fits-8 : (bs : Bytes) (i : ℕ) → fits (signedAt bs i 8) ≡ true
-unfolding signedAt
-signed-fits-8 bs i = signed-fits 63 (unsignedAt bs i 8)
-
-signed-fits-1 : (bs : Bytes) (i : ℕ) → fitsSigned 1 (signedAt bs i 1) ≡ true
-unfolding signedAt
-signed-fits-1 bs i = signed-fits 7 (unsignedAt bs i 1)
 
 -- ---- commands
 

@@ -4,3 +4,4 @@ pub mod Waits
 pub mod Demand3
 pub mod OneForm
 pub mod Kept
+pub mod Brought

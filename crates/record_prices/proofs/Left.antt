@@ -6,11 +6,12 @@ use native.Mathlib.Omega.{arith}
 use native.Mathlib.Nat.{zero-add, lt-of-lt-of-le, pow-suc, div-one, div-eq-of-lt, div-div-eq-div-mul}
 use native.Mathlib.Numerals.{add-one}
 use lib.ListN.{getD, drop}
+use lib.Bits.{bitOr}
 use lib.Dec.{ltb, eqb, lit<}
 use lib.Arith.{lt-of-le-ne}
 use lib.Pow.{pow-mono}
 use borrow.Author.Tests.{eq-eqb, ne-eqb, eqb-true, eqb-false}
-use Rattle.rules.proofs.Bools.{and-true, and-assoc}
+use Rattle.rules.proofs.Bools.{both, not-both, and-true, and-false, and-assoc, either-below}
 use Rattle.rules.proofs.Bytes.{drop-bytes, little-below}
 use Rattle.rules.proofs.SlotPrices.{price-at}
 use Rattle.rules.specs.Log.{if_then_else_, Σ<, all<}
@@ -18,6 +19,7 @@ use Rattle.rules.specs.Bytes.{Bytes, areBytes, unsignedAt}
 use Rattle.rules.specs.Taking.{bit}
 use Rattle.rules.specs.State.{candidatesOf}
 use Rattle.rules.specs.Series.{slotPlaces}
+use Rattle.rules.specs.Brought.{lowPrice, lowSlots}
 use Rattle.rules.specs.Record.{slotPricesAt, slotPriced, goodPrices, partsIn, pricesIn, holdingsIn}
 use Rattle.record_prices.specs.Left.{Left}
 
@@ -83,12 +85,15 @@ module _ (bs : Bytes) where
   unfolding candidatesOf partsIn
   bits-are = refl
 
+  abbrev low : ℕ → Bool
+  low j = lowPrice (price j)
+
   -- no slot is tested yet
   pub left-none : areBytes bs ≡ true → Left bs slotPlaces 0 0
   unfolding Left unsignedAt
   left-none are =
       let none : holdingsIn bs .candidates .bits / 2 ^ slotPlaces ≡ 0 = rw bits-are (div-eq-of-lt (little-below 4 (drop 32 bs) (drop-bytes 32 bs are))) in
-      (omega arith, lit< tt, rw none (and-true _), omega arith)
+      (omega arith, lit< tt, rw none (and-true _), omega arith, refl)
 
   pub left-few : (i bits total : ℕ) → Left bs i bits total → i ≤ slotPlaces
   unfolding Left
@@ -98,11 +103,11 @@ module _ (bs : Bytes) where
   unfolding Left
   left-small i bits total l = lt-of-lt-of-le (l .1) (pow-mono {j = slotPlaces} (omega arith))
 
-  -- one slot more
-  pub left-next : (n i bits total p bits′ total′ : ℕ) → Left bs n bits total → n ≡ i + 1 → p ≡ unsignedAt bs (slotPricesAt + 8 * i) 8
+  -- one slot more, whose price is low
+  left-next : (n i bits total p bits′ total′ : ℕ) → Left bs n bits total → n ≡ i + 1 → p ≡ unsignedAt bs (slotPricesAt + 8 * i) 8 → lowPrice p ≡ true
       → bits′ ≡ 2 * bits + (if ltb 0 p then 1 else 0) → total′ ≡ total + p → Left bs i bits′ total′
   unfolding Left
-  left-next n i bits total p bits′ total′ l e q eb et =
+  left-next n i bits total p bits′ total′ l e q w eb et =
       let s : n ≡ suc i = e ∙ add-one i in
       let m : Left bs (suc i) bits total = rw s at l in
       let few : i < slotPlaces = omega (arith, m .0) in
@@ -111,15 +116,57 @@ module _ (bs : Bytes) where
         wider slotPlaces i bits bits′ (ltb 0 p) few (m .1) eb,
         one-less (slotPriced (holdingsIn bs)) _ (holdingsIn bs .candidates .bits) i bits bits′ (ltb 0 p) (ap (λ (x : ℕ). Bool·beq (bit i (holdingsIn bs .candidates .bits)) (ltb 0 x)) (sym same)) eb (m .2),
         omega (arith, m .3, et, same),
+        sym (and-true (all< i low)) ∙ ap (λ (b : Bool). all< i low && b) (sym w ∙ ap (λ (x : ℕ). lowPrice x) same) ∙ m .4,
       )
+
+  -- one slot more, whose price is not
+  left-high : (n i bits total p : ℕ) → Left bs n bits total → n ≡ i + 1 → p ≡ unsignedAt bs (slotPricesAt + 8 * i) 8 → lowPrice p ≡ false → lowSlots (holdingsIn bs) ≡ false
+  unfolding Left lowSlots
+  left-high n i bits total p l e q w =
+      let s : n ≡ suc i = e ∙ add-one i in
+      let m : Left bs (suc i) bits total = rw s at l in
+      let same = q ∙ sym (price-at bs i (omega (arith, m .0))) in
+      sym (m .4) ∙ ap (λ (b : Bool). all< i low && b) (sym (ap (λ (x : ℕ). lowPrice x) same) ∙ w) ∙ and-false (all< i low)
+
+  -- one pair of slots more
+  module _ (n m bits total lower upper : ℕ) (l : Left bs (2 * n) bits total) (e : n ≡ m + 1)
+      (lo : lower ≡ unsignedAt bs (slotPricesAt + 16 * m) 8) (hi : upper ≡ unsignedAt bs (slotPricesAt + 16 * m + 8) 8) where
+    up : upper ≡ unsignedAt bs (slotPricesAt + 8 * (2 * m + 1)) 8
+    up = hi ∙ ap (λ (k : ℕ). unsignedAt bs k 8) (omega arith)
+
+    down : lower ≡ unsignedAt bs (slotPricesAt + 8 * (2 * m)) 8
+    down = lo ∙ ap (λ (k : ℕ). unsignedAt bs k 8) (omega arith)
+
+    pub pair-next : (b d bits′ total′ : ℕ) → lowPrice (bitOr lower upper) ≡ true → b ≡ (if ltb 0 upper then 1 else 0) → d ≡ (if ltb 0 lower then 1 else 0)
+        → bits′ ≡ 4 * bits + 2 * b + d → total′ ≡ total + upper + lower → Left bs (2 * m) bits′ total′
+    pair-next b d bits′ total′ w eb ed es et =
+        let (x, y) = both (lowPrice lower) (lowPrice upper) (sym (either-below 63 lower upper) ∙ w) in
+        let one : Left bs (2 * m + 1) (2 * bits + b) (total + upper) =
+        left-next (2 * n) (2 * m + 1) bits total upper (2 * bits + b) (total + upper) l (omega (arith, e)) up y (ap (λ (k : ℕ). 2 * bits + k) eb) refl in
+        left-next (2 * m + 1) (2 * m) (2 * bits + b) (total + upper) lower bits′ total′ one refl down x (es ∙ twice ∙ ap (λ (k : ℕ). 2 * (2 * bits + b) + k) ed) et
+      where
+        twice : 4 * bits + 2 * b + d ≡ 2 * (2 * bits + b) + d
+        twice = omega arith
+
+    pub pair-high : lowPrice (bitOr lower upper) ≡ false → lowSlots (holdingsIn bs) ≡ false
+    pair-high w = go (lowPrice upper) (lowPrice lower) refl refl (sym (either-below 63 lower upper) ∙ w)
+      where
+        go : (x y : Bool) → lowPrice upper ≡ x → lowPrice lower ≡ y → lowPrice lower && lowPrice upper ≡ false → lowSlots (holdingsIn bs) ≡ false
+        go false y p q h = left-high (2 * n) (2 * m + 1) bits total upper l (omega (arith, e)) up p
+        go true false p q h =
+            let one = left-next (2 * n) (2 * m + 1) bits total upper _ (total + upper) l (omega (arith, e)) up p refl refl in
+            left-high (2 * m + 1) (2 * m) _ (total + upper) lower one refl down q
+        go true true p q h = absurd (not-both (rw (p, q)) h)
 
   -- all slots are tested
   pub left-done : (i bits total : ℕ) → Left bs i bits total → i ≡ 0
-      → goodPrices (holdingsIn bs) ≡ eqb (unsignedAt bs 56 8 * 2 ^ 64 + unsignedAt bs 48 8) total && eqb bits (unsignedAt bs 32 4)
-  unfolding Left goodPrices candidatesOf partsIn
+      → goodPrices (holdingsIn bs) && lowSlots (holdingsIn bs) ≡ eqb (unsignedAt bs 56 8 * 2 ^ 64 + unsignedAt bs 48 8) total && eqb bits (unsignedAt bs 32 4)
+  unfolding Left goodPrices lowSlots candidatesOf partsIn
   left-done i bits total l e =
       let m : Left bs 0 bits total = rw e at l in
       let sum : Σ< slotPlaces price ≡ total = sym (m .3) ∙ zero-add total in
       let set : all< slotPlaces (slotPriced (holdingsIn bs)) ≡ eqb bits (unsignedAt bs 32 4) = sym (m .2) ∙ ap (λ (x : ℕ). eqb bits x) (div-one (unsignedAt bs 32 4)) in
-      ap (λ (x : ℕ). eqb (unsignedAt bs 56 8 * 2 ^ 64 + unsignedAt bs 48 8) x && all< slotPlaces (slotPriced (holdingsIn bs))) sum
+      ap (λ (b : Bool). (eqb (unsignedAt bs 56 8 * 2 ^ 64 + unsignedAt bs 48 8) (Σ< slotPlaces price) && all< slotPlaces (slotPriced (holdingsIn bs))) && b) (sym (m .4))
+      ∙ and-true _
+      ∙ ap (λ (x : ℕ). eqb (unsignedAt bs 56 8 * 2 ^ 64 + unsignedAt bs 48 8) x && all< slotPlaces (slotPriced (holdingsIn bs))) sum
       ∙ ap (λ (x : Bool). eqb (unsignedAt bs 56 8 * 2 ^ 64 + unsignedAt bs 48 8) total && x) set

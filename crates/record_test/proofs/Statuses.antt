@@ -15,13 +15,14 @@ use Rattle.rules.specs.Terms.{Terms, goodTerms}
 use Rattle.rules.specs.Decision.{voted}
 use Rattle.rules.specs.State.{Parts, candidatesOf, goodState, decideCall}
 use Rattle.rules.specs.Series.{empty, live, decidedBy}
+use Rattle.rules.specs.Brought.{leftByPrints}
 use Rattle.rules.specs.Record.{recordSize, bookSize, seriesCount, goodPrices, openingIn, partsIn, holdingsIn, tagIn, fixingTimeIn, orderIn, seriesIn, bodyTests, openTests, fixedTests, standing, acceptable, stored}
 use Rattle.rules.specs.Book.{recordAt, look}
-use Rattle.rules.proofs.Bools.{both, and-true, and-false}
+use Rattle.rules.proofs.Bools.{both, not-both, and-true, and-false}
 use Rattle.book.specs.Looks.{Allowed}
 use Rattle.record_test.specs.declared.status.Status.{Status}
 use Rattle.record_test.specs.declared.status.Status.the-variants as S
-use Rattle.record_test.specs.Statuses.{goodBody, statusAs, statusOf, statusIn, storedIn, storedAt, decisionIn}
+use Rattle.record_test.specs.Statuses.{goodBody, goodHoldings, statusAs, statusOf, statusIn, storedIn, storedAt, decisionIn}
 
 -- ---- the record, by its tag
 
@@ -47,17 +48,24 @@ module _ (bs : Bytes) where
   pub not-padded : eqb (unsignedAt bs 37 3) 0 ≡ false → every (bodyTests bs) ≡ false
   not-padded e = simp (e, and-false)
 
-  -- where the slot prices are not right
-  pub not-priced : goodPrices (holdingsIn bs) ≡ false → every (bodyTests bs) ≡ false
-  not-priced e = simp (e, and-false)
+  -- where slot prices and candidates are not such as prints leave
+  pub not-left : goodHoldings bs ≡ false → every (bodyTests bs) ≡ false
+  not-left e = go (goodPrices (holdingsIn bs)) (leftByPrints (openingIn bs) (holdingsIn bs)) e
+    where
+      go : (x y : Bool) → x && y ≡ false → goodTerms (openingIn bs .terms) && (goodState (openingIn bs .terms) (partsIn bs) && (eqb (unsignedAt bs 37 3) 0 && (x && (y && true)))) ≡ false
+      go true false e = simp and-false
+      go false y e = simp and-false
+      go true true e = absurd (not-both refl e)
 
-  -- where they are zero and the prices are right, by the terms and the state
-  pub body-is : {t : Terms} {s : Parts} → t ≡ openingIn bs .terms → s ≡ partsIn bs → unsignedAt bs 37 3 ≡ 0 → goodPrices (holdingsIn bs) ≡ true
+  -- where those are zero and these are such, by the terms and the state
+  pub body-is : {t : Terms} {s : Parts} → t ≡ openingIn bs .terms → s ≡ partsIn bs → unsignedAt bs 37 3 ≡ 0 → goodHoldings bs ≡ true
       → every (bodyTests bs) ≡ goodTerms t && goodState t s
-  body-is et es e p = simp (eq-eqb (unsignedAt bs 37 3) 0 e, p, and-true) (λ i. goodTerms (sym et i) && goodState (sym et i) (sym es i))
+  body-is et es e p =
+      let (x, y) = both (goodPrices (holdingsIn bs)) (leftByPrints (openingIn bs) (holdingsIn bs)) p in
+      simp (eq-eqb (unsignedAt bs 37 3) 0 e, x, y, and-true) (λ i. goodTerms (sym et i) && goodState (sym et i) (sym es i))
 
   -- there, an open and a fixed record
-  pub open-status : (b : Bool) → tagIn bs ≡ 1 → unsignedAt bs 37 3 ≡ 0 → goodPrices (holdingsIn bs) ≡ true → every (openTests bs) ≡ b → (if b then statusAs S.Untested bs else refused 11) ≡ stored bs
+  pub open-status : (b : Bool) → tagIn bs ≡ 1 → unsignedAt bs 37 3 ≡ 0 → goodHoldings bs ≡ true → every (openTests bs) ≡ b → (if b then statusAs S.Untested bs else refused 11) ≡ stored bs
   unfolding stored acceptable seriesIn
   open-status b t p g f = rw (t, body-is refl refl p g, f) (go (goodBody bs) b)
     where
@@ -67,7 +75,7 @@ module _ (bs : Bytes) where
       go false true = refl
       go false false = refl
 
-  pub fixed-status : (b : Bool) → eqb (tagIn bs) 0 ≡ false → eqb (tagIn bs) 1 ≡ false → tagIn bs ≤ 3 → unsignedAt bs 37 3 ≡ 0 → goodPrices (holdingsIn bs) ≡ true
+  pub fixed-status : (b : Bool) → eqb (tagIn bs) 0 ≡ false → eqb (tagIn bs) 1 ≡ false → tagIn bs ≤ 3 → unsignedAt bs 37 3 ≡ 0 → goodHoldings bs ≡ true
       → b ≡ goodBody bs && every (fixedTests bs) → (if b then statusAs S.Fixed bs else refused 11) ≡ stored bs
   unfolding stored acceptable seriesIn
   fixed-status b x y t p g f = rw (x, y, le-leb (tagIn bs) 3 t, body-is refl refl p g, f)
@@ -91,28 +99,28 @@ module _ (bs : Bytes) where
 
   -- what is stored, by the status
   pub status-stored : statusAs (statusOf bs) bs ≡ stored bs
-  status-stored = go (eqb (tagIn bs) 0) (ltb 3 (tagIn bs)) (eqb (unsignedAt bs 37 3) 0) (goodPrices (holdingsIn bs)) (eqb (tagIn bs) 1) refl refl refl refl refl
+  status-stored = go (eqb (tagIn bs) 0) (ltb 3 (tagIn bs)) (eqb (unsignedAt bs 37 3) 0) (goodHoldings bs) (eqb (tagIn bs) 1) refl refl refl refl refl
     where
       zero-tag : (b : Bool) → tagIn bs ≡ 0 → allZero bs ≡ b → statusAs (if b then S.Empty else S.Refused 11) bs ≡ stored bs
       zero-tag true t e = sym (stored-zero true t e)
       zero-tag false t e = sym (stored-zero false t e)
 
-      one-tag : (b : Bool) → tagIn bs ≡ 1 → unsignedAt bs 37 3 ≡ 0 → goodPrices (holdingsIn bs) ≡ true → every (openTests bs) ≡ b → statusAs (if b then S.Untested else S.Refused 11) bs ≡ stored bs
+      one-tag : (b : Bool) → tagIn bs ≡ 1 → unsignedAt bs 37 3 ≡ 0 → goodHoldings bs ≡ true → every (openTests bs) ≡ b → statusAs (if b then S.Untested else S.Refused 11) bs ≡ stored bs
       one-tag true t p g e = open-status true t p g e
       one-tag false t p g e = open-status false t p g e
 
-      fixed-tag : (b : Bool) → eqb (tagIn bs) 0 ≡ false → eqb (tagIn bs) 1 ≡ false → tagIn bs ≤ 3 → unsignedAt bs 37 3 ≡ 0 → goodPrices (holdingsIn bs) ≡ true
+      fixed-tag : (b : Bool) → eqb (tagIn bs) 0 ≡ false → eqb (tagIn bs) 1 ≡ false → tagIn bs ≤ 3 → unsignedAt bs 37 3 ≡ 0 → goodHoldings bs ≡ true
           → b ≡ goodBody bs && every (fixedTests bs) → statusAs (if b then S.Fixed else S.Refused 11) bs ≡ stored bs
       fixed-tag true x y t p g e = fixed-status true x y t p g e
       fixed-tag false x y t p g e = fixed-status false x y t p g e
 
-      go : (x y p g z : Bool) → eqb (tagIn bs) 0 ≡ x → ltb 3 (tagIn bs) ≡ y → eqb (unsignedAt bs 37 3) 0 ≡ p → goodPrices (holdingsIn bs) ≡ g → eqb (tagIn bs) 1 ≡ z
+      go : (x y p g z : Bool) → eqb (tagIn bs) 0 ≡ x → ltb 3 (tagIn bs) ≡ y → eqb (unsignedAt bs 37 3) 0 ≡ p → goodHoldings bs ≡ g → eqb (tagIn bs) 1 ≡ z
           → statusAs (if x then (if allZero bs then S.Empty else S.Refused 11) else (if y then S.Refused 11 else (if not p then S.Refused 11 else (if not g then S.Refused 11 else
           (if z then (if every (openTests bs) then S.Untested else S.Refused 11) else (if goodBody bs && every (fixedTests bs) then S.Fixed else S.Refused 11)))))) bs ≡ stored bs
       go true y p g z ex ey ep eg ez = zero-tag (allZero bs) (eqb-true (tagIn bs) 0 ex) refl
       go false true p g z ex ey ep eg ez = sym (stored-above (ltb-true 3 (tagIn bs) ey))
       go false false false g z ex ey ep eg ez = sym (stored-spoilt (eqb-false (tagIn bs) 0 ex) (not-padded ep))
-      go false false true false z ex ey ep eg ez = sym (stored-spoilt (eqb-false (tagIn bs) 0 ex) (not-priced eg))
+      go false false true false z ex ey ep eg ez = sym (stored-spoilt (eqb-false (tagIn bs) 0 ex) (not-left eg))
       go false false true true true ex ey ep eg ez = one-tag (every (openTests bs)) (eqb-true (tagIn bs) 1 ez) (eqb-true (unsignedAt bs 37 3) 0 ep) eg refl
       go false false true true false ex ey ep eg ez =
           fixed-tag (goodBody bs && every (fixedTests bs)) ex ez (ltb-false 3 (tagIn bs) ey) (eqb-true (unsignedAt bs 37 3) 0 ep) eg refl
@@ -124,7 +132,7 @@ module _ (bs : Bytes) where
       (if z then (if o then S.Untested else S.Refused 11) else (if f then S.Fixed else S.Refused 11)))))
 
   pub empty-zero : statusOf bs ≡ S.Empty → allZero bs ≡ true
-  empty-zero e = go (eqb (tagIn bs) 0) (allZero bs) (ltb 3 (tagIn bs)) (eqb (unsignedAt bs 37 3) 0) (goodPrices (holdingsIn bs)) (eqb (tagIn bs) 1) (every (openTests bs)) (goodBody bs && every (fixedTests bs)) e
+  empty-zero e = go (eqb (tagIn bs) 0) (allZero bs) (ltb 3 (tagIn bs)) (eqb (unsignedAt bs 37 3) 0) (goodHoldings bs) (eqb (tagIn bs) 1) (every (openTests bs)) (goodBody bs && every (fixedTests bs)) e
     where
       go : (x a y p g z o f : Bool) → statusBy x a y p g z o f ≡ S.Empty → a ≡ true
       go true true y p g z o f e = refl
@@ -137,8 +145,8 @@ module _ (bs : Bytes) where
       go false a false true true false o true e = cc
       go false a false true true false o false e = cc
 
-  pub untested-priced : statusOf bs ≡ S.Untested → goodPrices (holdingsIn bs) ≡ true
-  untested-priced e = go (eqb (tagIn bs) 0) (allZero bs) (ltb 3 (tagIn bs)) (eqb (unsignedAt bs 37 3) 0) (goodPrices (holdingsIn bs)) (eqb (tagIn bs) 1) (every (openTests bs)) (goodBody bs && every (fixedTests bs)) e
+  pub untested-left : statusOf bs ≡ S.Untested → goodHoldings bs ≡ true
+  untested-left e = go (eqb (tagIn bs) 0) (allZero bs) (ltb 3 (tagIn bs)) (eqb (unsignedAt bs 37 3) 0) (goodHoldings bs) (eqb (tagIn bs) 1) (every (openTests bs)) (goodBody bs && every (fixedTests bs)) e
     where
       go : (x a y p g z o f : Bool) → statusBy x a y p g z o f ≡ S.Untested → g ≡ true
       go true true y p g z o f e = cc
@@ -150,7 +158,7 @@ module _ (bs : Bytes) where
 
   -- by the vote, since its tag is 1
   pub untested-voted : statusOf bs ≡ S.Untested → orderIn bs ≡ voted
-  untested-voted e = go (eqb (tagIn bs) 0) (allZero bs) (ltb 3 (tagIn bs)) (eqb (unsignedAt bs 37 3) 0) (goodPrices (holdingsIn bs)) (eqb (tagIn bs) 1) (every (openTests bs)) (goodBody bs && every (fixedTests bs)) refl e
+  untested-voted e = go (eqb (tagIn bs) 0) (allZero bs) (ltb 3 (tagIn bs)) (eqb (unsignedAt bs 37 3) 0) (goodHoldings bs) (eqb (tagIn bs) 1) (every (openTests bs)) (goodBody bs && every (fixedTests bs)) refl e
     where
       go : (x a y p g z o f : Bool) → eqb (tagIn bs) 1 ≡ z → statusBy x a y p g z o f ≡ S.Untested → orderIn bs ≡ voted
       go true true y p g z o f h e = cc

@@ -10,6 +10,7 @@ use Rattle.rules.specs.Answers as R
 use Rattle.rules.specs.Terms.{goodTerms}
 use Rattle.rules.specs.State.{goodState, decideCall}
 use Rattle.rules.specs.Series.{Series, empty, live, fixed}
+use Rattle.rules.specs.Brought.{leftByPrints}
 use Rattle.rules.specs.Record.{recordSize, goodPrices, openingIn, partsIn, holdingsIn, tagIn, fixingTimeIn, orderIn, openTests, fixedTests, stored}
 use Rattle.rules.specs.Book.{look}
 use Rattle.record_read.specs.Records.{outcomeIn}
@@ -21,6 +22,10 @@ use Rattle.record_test.specs.declared.status.Status.the-variants as S
 -- the terms and the state are good
 abbrev pub goodBody : Bytes → Bool
 goodBody bs = goodTerms (openingIn bs .terms) && goodState (openingIn bs .terms) (partsIn bs)
+
+-- the slot prices are right, and slots, links and fallback are such as prints leave
+abbrev pub goodHoldings : Bytes → Bool
+goodHoldings bs = goodPrices (holdingsIn bs) && leftByPrints (openingIn bs) (holdingsIn bs)
 
 -- what is stored in a record of this status; untested are the terms and the state
 abbrev pub statusAs : Status → Bytes → R.Result Series
@@ -35,7 +40,7 @@ statusOf bs =
     if eqb (tagIn bs) 0 then (if allZero bs then S.Empty else S.Refused 11) else
     if ltb 3 (tagIn bs) then S.Refused 11 else
     if not (eqb (unsignedAt bs 37 3) 0) then S.Refused 11 else
-    if not (goodPrices (holdingsIn bs)) then S.Refused 11 else
+    if not (goodHoldings bs) then S.Refused 11 else
     if eqb (tagIn bs) 1 then (if every (openTests bs) then S.Untested else S.Refused 11) else
     if goodBody bs && every (fixedTests bs) then S.Fixed else S.Refused 11
 

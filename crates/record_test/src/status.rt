@@ -20,10 +20,10 @@ use fields::read::u8_at;
 use fields::read::u16_at;
 use fields::read::u24_at;
 use fields::read::u64_at;
-use record_prices::prices::prices_stand;
+use record_holdings::holdings::holdings_stand;
 
-// What a record is found to be. Of an open one, terms and candidates are still to be tested: the
-// core's calls do that, and their 12 or 11 is the book's 11.
+// What a record is found to be. Of an open one, the terms are still to be tested, and the candidates
+// by `restore`'s test: the core's calls do that, and their 12 or 11 is the book's 11.
 pub enum Status {
     Empty,
     Untested,
@@ -122,7 +122,7 @@ fn status_of(bytes: &[u8]) -> Status
     if u24_at(bytes, 37) != 0 {
         return Status::Refused(11);
     }
-    if !prices_stand(bytes) {
+    if !holdings_stand(bytes) {
         return Status::Refused(11);
     }
     if tag == 1 {

@@ -3,7 +3,7 @@ use Prim.Native.Nat.{ℕ, zero, suc, _+_, _^_, _<_, _≤_}
 use mathlib.Core.Path.{_≡_, refl, sym, _∙_}
 use mathlib.Core.Bool.{Bool, true, false, _&&_, Bool·beq}
 use mathlib.Core.Option.{Option, none, some}
-use mathlib.Core.List.{[], _∷_}
+use mathlib.Core.List.{List, [], _∷_}
 use native.Mathlib.Omega.{arith}
 use lib.ListN.{getD}
 use lib.IntN.{ℤ, pos}
@@ -15,25 +15,31 @@ use Rattle.rules.proofs.Bools.{both, beq-refl}
 use Rattle.rules.proofs.Integers.{lt-true}
 use Rattle.rules.proofs.Logs.{all-mono, first-all, all-map, list-at}
 use Rattle.rules.proofs.Sums.{Σ<-ext, Σ<-stop, all<-yes}
-use Rattle.rules.proofs.Place.{ofPrints, prints-all, holder-all, few-slots, candidates-bit, no-bit}
-use Rattle.rules.proofs.Series.{accept-facts, good-positive, taken-all, opening-good}
+use Rattle.rules.proofs.Place.{ofPrints, prints-all, holder-all, few-slots, candidates-bit, no-bit, small}
+use Rattle.rules.proofs.Series.{accept-facts, good-positive, taken-all, no-prints, opening-good}
+use Rattle.rules.proofs.Brought.{good, times, left-by-prints}
 use Rattle.rules.proofs.State.{parts-back, zeros-after}
-use Rattle.rules.proofs.Fields.{commandFits, chain-all, chain-size, bits-below, candidates-fit, events-fit, freeze-fits, freeze-final}
+use Rattle.rules.proofs.Fields.{commandFits, eventFits, prints-small, chain-all, chain-size, bits-below, candidates-fit, events-fit, freeze-fits, freeze-final}
 use Rattle.rules.specs.Log.{Log, ε, _▹_, if_then_else_, isSome, maybe, size, all, first, map, Σ<, every}
 use Rattle.rules.specs.Answers.{final}
 use Rattle.rules.specs.Terms.{goodTerms, slots}
-use Rattle.rules.specs.Prints.{Print, goodPrint, eqZ}
+use Rattle.rules.specs.Prints.{Print, eqZ}
 use Rattle.rules.specs.Taking.{bit, links, follows}
 use Rattle.rules.specs.State.{partsOf, rising, goodState}
-use Rattle.rules.specs.Series.{Opening, Command, slotPlaces, Series, empty, live, fixed, decidedBy}
+use Rattle.rules.specs.Series.{Opening, Command, Holdings, slotPlaces, Series, empty, live, fixed, decidedBy}
+use Rattle.rules.specs.Brought.{leftByPrints}
 use Rattle.rules.specs.Record.{slotPriced, goodPrices, candidatesFit}
 use Rattle.rules.specs.Ledger.{opening, Posting, Event, events, prints, holder, chain, fallback, greatest, candidates, priceAt, slotPrices, holdings, Freeze, freeze, takenEvents, since, ledger}
+
+-- the tests of what an open and a fixed series share
+abbrev pub soundTests : Opening → Holdings → List Bool
+soundTests o h = goodTerms (o .terms) ∷ goodState (o .terms) (partsOf (h .candidates)) ∷ goodPrices h ∷ leftByPrints o h ∷ []
 
 -- the series whose record is acceptable
 abbrev pub sound : Series → Bool
 sound empty = true
-sound (live o h) = every (goodTerms (o .terms) ∷ goodState (o .terms) (partsOf (h .candidates)) ∷ goodPrices h ∷ [])
-sound (fixed r o h a at) = every (goodTerms (o .terms) ∷ goodState (o .terms) (partsOf (h .candidates)) ∷ goodPrices h ∷ final (decidedBy r o (h .candidates) at) ∷ [])
+sound (live o h) = every (soundTests o h)
+sound (fixed r o h a at) = every (soundTests o h) && final (decidedBy r o (h .candidates) at)
 
 -- ---- sums of positive numbers
 
@@ -51,25 +57,19 @@ zero-together (suc n) f g h = rw (eqb-add (Σ< n f) (f n), eqb-add (Σ< n g) (g 
 
 -- ---- the chain
 
-abbrev good : Posting → Bool
-good p = goodPrint (p .print)
-
 module _ (o : Opening) where
-  abbrev times : Log Posting → Log ℤ
-  times ps = map (λ q. q .print .published) (chain o ps)
-
-  rises-more : (ts : Log ℤ) (p : Print) → rising ts ≡ true → follows (o .terms) (o .expiry) ts p ≡ true → rising (ts ▹ p .published) ≡ true
+  pub rises-more : (ts : Log ℤ) (p : Print) → rising ts ≡ true → follows (o .terms) (o .expiry) ts p ≡ true → rising (ts ▹ p .published) ≡ true
   rises-more ε p r f = refl
   rises-more (ts ▹ t) p r f = rw (r, both (eqZ (p .prev) t) (ltZ t (p .published)) f .1)
 
-  chain-rising : (ps : Log Posting) → rising (times ps) ≡ true
+  chain-rising : (ps : Log Posting) → rising (times o ps) ≡ true
   unfolding chain links
   chain-rising ε = refl
-  chain-rising (ps ▹ p) = go (links (o .terms) (o .expiry) (times ps) (p .print)) refl (chain-rising ps)
+  chain-rising (ps ▹ p) = go (links (o .terms) (o .expiry) (times o ps) (p .print)) refl (chain-rising ps)
     where
-      go : (b : Bool) → links (o .terms) (o .expiry) (times ps) (p .print) ≡ b → rising (times ps) ≡ true
+      go : (b : Bool) → links (o .terms) (o .expiry) (times o ps) (p .print) ≡ b → rising (times o ps) ≡ true
           → rising (map (λ q. q .print .published) (if b then chain o ps ▹ p else chain o ps)) ≡ true
-      go true l r = rises-more (times ps) (p .print) r (both (ltb (size (times ps)) (o .terms .k)) (follows (o .terms) (o .expiry) (times ps) (p .print)) l .1)
+      go true l r = rises-more (times o ps) (p .print) r (both (ltb (size (times o ps)) (o .terms .k)) (follows (o .terms) (o .expiry) (times o ps) (p .print)) l .1)
       go false l r = r
 
 module _ (o : Opening) (es : Log Event) (h : all (ofPrints good) es ≡ true) where
@@ -94,7 +94,7 @@ module _ (o : Opening) (es : Log Event) (h : all (ofPrints good) es ≡ true) wh
       go : (f : Option Posting) → maybe true good f ≡ true → eqZ (maybe (pos 0) (λ p. p .print .published) f) (pos 0) ≡ eqb (maybe 0 (λ p. p .print .price) f) 0
       go none e = refl
       go (some p) e =
-          let (q, l) = good-positive (p .print) e in
+          let (q, l, _) = good-positive (p .print) e in
           let q = ltb-true 0 (p .print .price) q in
           rw (lt-true (pos 0) (p .print .published) l, ne-eqb (p .print .price) 0 (omega arith))
 
@@ -175,16 +175,20 @@ pub ledger-sound : (j : Log Command) → all commandFits j ≡ true → sound (l
 unfolding ledger takenEvents
 ledger-sound j h = go (opening j) (freeze j) refl refl
   where
+    left : (o : Opening) (j : Log Command) → opening j ≡ some o → all eventFits (events j) ≡ true → leftByPrints o (holdings o (events j)) ≡ true
+    left o j e f =
+        left-by-prints o (events j) (events-good j) (all-mono eventFits (ofPrints small) prints-small (events j) f) (no-prints j o e)
+
     go : (o : Option Opening) (z : Option Freeze) → opening j ≡ o → freeze j ≡ z
         → sound (maybe empty (λ q. since q (holdings q (maybe (events j) (λ y. events (y .ahead)) z)) z) o) ≡ true
     go none z e f = refl
     go (some o) none e f =
         let g = opening-good j o e in
         let c = candidates-fit o (events j) g (events-fit j h) in
-        rw (g, candidates-good o (events j) (events-good j) c, prices-good o (events j) (events-good j) (few-slots o g))
+        rw (g, candidates-good o (events j) (events-good j) c, prices-good o (events j) (events-good j) (few-slots o g), left o j e (events-fit j h))
     go (some o) (some z) e f =
         let (a, n) = freeze-fits z j h f in
         let g = opening-good j o e in
         let es = events (z .ahead) in
         let c = candidates-fit o es g (events-fit (z .ahead) a) in
-        rw (g, candidates-good o es (events-good (z .ahead)) c, prices-good o es (events-good (z .ahead)) (few-slots o g), freeze-final z j o f e)
+        rw (g, candidates-good o es (events-good (z .ahead)) c, prices-good o es (events-good (z .ahead)) (few-slots o g), left o (z .ahead) (freeze-final z j o f e .0) (events-fit (z .ahead) a), freeze-final z j o f e .1)

@@ -1,12 +1,12 @@
 -- Facts about Boolean tests and choices.
-use Prim.Native.Nat.{ℕ, zero, suc, _+_}
-use mathlib.Core.Path.{_≡_, refl}
+use Prim.Native.Nat.{ℕ, zero, suc, _+_, _^_}
+use mathlib.Core.Path.{_≡_, refl, sym, ap, _∙_}
 use mathlib.Core.Bool.{Bool, true, false, not, _&&_, _||_, Bool·beq}
-use mathlib.Core.List.{List, [], _∷_}
+use mathlib.Core.List.{List, [], _∷_, _++_}
 use native.Mathlib.Omega.{arith}
-use lib.Dec.{eqb}
-use lib.Bits.{bitAnd, bitOr, or-add-and, and-le-l, and-le-r}
-use borrow.Author.Tests.{eq-eqb, ne-eqb, eqb-true, eqb-false}
+use lib.Dec.{ltb, eqb}
+use lib.Bits.{bitAnd, bitOr, or-lt, or-add-and, and-le-l, and-le-r}
+use borrow.Author.Tests.{ltb-true, ltb-false, lt-ltb, le-ltb, eq-eqb, ne-eqb, eqb-true, eqb-false}
 use Rattle.rules.specs.Log.{if_then_else_, every}
 
 pub both : (a b : Bool) → a && b ≡ true → (a ≡ true) × (b ≡ true)
@@ -56,6 +56,10 @@ every-at (true ∷ bs) (suc i) e = every-at bs i e
 every-at (false ∷ bs) zero e = e
 every-at (false ∷ bs) (suc i) e = cc
 
+pub every-more : (a b : List Bool) → every (a ++ b) ≡ every a && every b
+every-more [] b = refl
+every-more (x ∷ a) b = ap (λ (r : Bool). x && r) (every-more a b) ∙ sym (and-assoc x (every a) (every b))
+
 -- ---- a choice, seen through a function, and by a negated or a joined test
 
 pub push : {A B : Type 0} (f : A → B) (b : Bool) (x y : A) → f (if b then x else y) ≡ (if b then f x else f y)
@@ -84,3 +88,15 @@ either-zero a b = go (eqb a 0) (eqb b 0) refl refl
         eq-eqb (bitOr a b) 0 (omega (arith, sums))
     go true false p q = let f = eqb-false b 0 q in ne-eqb (bitOr a b) 0 (λ z. f (omega (arith, sums, and-le-l a b)))
     go false y p q = let e = eqb-false a 0 p in ne-eqb (bitOr a b) 0 (λ z. e (omega (arith, sums, and-le-r a b)))
+
+-- and below a power of 2
+pub either-below : (k a b : ℕ) → ltb (bitOr a b) (2 ^ k) ≡ ltb a (2 ^ k) && ltb b (2 ^ k)
+either-below k a b = go (ltb a (2 ^ k)) (ltb b (2 ^ k)) refl refl
+  where
+    sums : bitOr a b + bitAnd a b ≡ a + b
+    sums = or-add-and a b
+
+    go : (x y : Bool) → ltb a (2 ^ k) ≡ x → ltb b (2 ^ k) ≡ y → ltb (bitOr a b) (2 ^ k) ≡ x && y
+    go true true p q = lt-ltb (bitOr a b) (2 ^ k) (or-lt k a b (ltb-true a (2 ^ k) p) (ltb-true b (2 ^ k) q))
+    go true false p q = le-ltb (bitOr a b) (2 ^ k) (omega (arith, sums, ltb-false b (2 ^ k) q, and-le-l a b))
+    go false y p q = le-ltb (bitOr a b) (2 ^ k) (omega (arith, sums, ltb-false a (2 ^ k) p, and-le-r a b))

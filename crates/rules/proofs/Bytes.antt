@@ -17,7 +17,7 @@ use borrow.Author.Tests.{ltb-true, lt-ltb, le-ltb, eqb-true}
 use Rattle.rules.proofs.Bools.{both}
 use Rattle.rules.proofs.Integers.{tests}
 use Rattle.rules.specs.Log.{if_then_else_}
-use Rattle.rules.specs.Bytes.{Bytes, areBytes, allZero, little, signed, unsignedAt, bytes, word, fitsUnsigned}
+use Rattle.rules.specs.Bytes.{Bytes, areBytes, allZero, little, signed, unsignedAt, signedAt, bytes, word, fitsUnsigned, fitsSigned, fits}
 
 -- ---- lists of bytes
 
@@ -117,6 +117,21 @@ module _ (w : ℕ) where
       go : (b : Bool) → word (suc w) (if b then pos n else negsuc (2 ^ suc w - 1 - n)) ≡ n
       go true = refl
       go false = omega arith
+
+-- ---- what is read fits
+
+pub unsigned-fits : (bs : Bytes) (i n : ℕ) → areBytes bs ≡ true → fitsUnsigned n (unsignedAt bs i n) ≡ true
+unfolding unsignedAt
+unsigned-fits bs i n h = lt-ltb _ _ (little-below n (drop i bs) (drop-bytes i bs h))
+
+-- a time in eight bytes, an exponent in one
+pub signed-fits-8 : (bs : Bytes) (i : ℕ) → fits (signedAt bs i 8) ≡ true
+unfolding signedAt
+signed-fits-8 bs i = signed-fits 63 (unsignedAt bs i 8)
+
+pub signed-fits-1 : (bs : Bytes) (i : ℕ) → fitsSigned 1 (signedAt bs i 1) ≡ true
+unfolding signedAt
+signed-fits-1 bs i = signed-fits 7 (unsignedAt bs i 1)
 
 -- ---- bytes stored one after the other
 

@@ -1,33 +1,35 @@
 -- Every number of the ledger's record fits its field.
-use Prim.Native.Nat.{ℕ, _*_, _^_, _<_, _≤_}
+use Prim.Native.Nat.{ℕ, _*_, _/_, _%_, _^_, _<_, _≤_}
 use mathlib.Core.Path.{_≡_, refl, sym, ap, _∙_}
 use mathlib.Core.Bool.{Bool, true, false, not, _||_}
 use mathlib.Core.Option.{Option, none, some}
 use mathlib.Core.List.{List, [], _∷_}
 use lib.ListN.{getD}
 use native.Mathlib.Omega.{arith}
-use native.Mathlib.Nat.{lt-of-le-of-lt, lt-of-lt-of-le, le-of-suc-le-suc}
+use native.Mathlib.Nat.{lt-of-le-of-lt, lt-of-lt-of-le}
 use lib.IntN.{ℤ, pos}
 use lib.Dec.{ltb, leb, eqb, lit<}
 use lib.Pow.{pow-mono}
-use borrow.Author.Tests.{ltb-true, lt-ltb, leb-true, leb-false, le-leb, eq-eqb}
+use borrow.Author.Tests.{ltb-true, lt-ltb, leb-false, le-leb, eq-eqb}
 use Rattle.rules.proofs.Bools.{both, every-at}
 use Rattle.rules.proofs.Integers.{tests}
 use Rattle.rules.proofs.Logs.{all-mono, first-all, last-all, lastAt-all, size-map, all-map, list-at}
 use Rattle.rules.proofs.Sums.{Σ<-ext, Σ<-le, all<-yes, below}
-use Rattle.rules.proofs.Place.{held, held-small, held-pow, few-slots, ofPrints, prints-all, holder-all, small, sum-low}
+use Rattle.rules.proofs.Place.{held, held-small, held-pow, few-slots, few-links, ofPrints, prints-all, holder-all, small, sum-low}
 use Rattle.rules.proofs.Series.{accept-facts, accept-small, taken-all, opening-good, no-freeze}
-use Rattle.rules.proofs.Prices.{size-upTo, FairAnswer, opened, used, wait, fair, void, done, refusal, decide-fair}
-use Rattle.rules.specs.Log.{Log, ε, _▹_, if_then_else_, _orElse_, maybe, size, put, all, last, lastAt, map, every, upTo, listFrom}
+use Rattle.rules.proofs.Decision.{decide-each}
+use Rattle.rules.proofs.State.{few-times}
+use Rattle.rules.specs.Log.{Log, ε, _▹_, if_then_else_, _orElse_, maybe, size, total, all, last, lastAt, map, every, listFrom}
 use Rattle.rules.specs.Bytes.{fitsUnsigned, fits}
-use Rattle.rules.specs.Answers.{ok, refused, Method, number, Answer, final}
-use Rattle.rules.specs.Terms.{goodTerms, termsTests, slots, goodExponent}
+use Rattle.rules.specs.Answers.{Result, ok, refused, Method, number, final}
+use Rattle.rules.specs.Terms.{goodTerms, slots, goodExponent}
 use Rattle.rules.specs.Prints.{Print, Quote, accept}
 use Rattle.rules.specs.Mean.{rounded, numerator, denominator, mean}
-use Rattle.rules.specs.Taking.{links, follows}
-use Rattle.rules.specs.Series.{Opening, Command, Open, Offer, Ask, Fix, Withdraw, slotPlaces, empty, decided}
+use Rattle.rules.specs.Taking.{Candidates, links, follows}
+use Rattle.rules.specs.Decision.{Order, ones, settleAt, settle}
+use Rattle.rules.specs.Series.{Opening, Command, Open, Offer, Ask, Fix, Withdraw, slotPlaces, empty, decidedBy, decided}
 use Rattle.rules.specs.Record.{openingFits, candidatesFit, pricesFit, outcomeFits, seriesFits}
-use Rattle.rules.specs.Ledger.{goodOpen, opening, Posting, Event, posted, withdrawal, eventNow, events, prints, holder, chain, fallback, greatest, movesWindow, candidates, priceAt, slotPrices, holdings, pricesFor, Freeze, decidedOn, freezes, freeze, takenEvents, since, ledger}
+use Rattle.rules.specs.Ledger.{goodOpen, opening, Posting, Event, posted, withdrawal, eventNow, events, prints, holder, chain, fallback, greatest, movesWindow, candidates, priceAt, slotPrices, holdings, Freeze, decidedOn, freezes, freeze, takenEvents, since, ledger}
 
 -- ---- prints and commands in range
 
@@ -60,12 +62,12 @@ event-prints : (e : Event) → eventFits e ≡ true → ofPrints postingFits e �
 event-prints (posted p) h = h
 event-prints (withdrawal now i) h = refl
 
-prints-small : (e : Event) → eventFits e ≡ true → ofPrints small e ≡ true
+pub prints-small : (e : Event) → eventFits e ≡ true → ofPrints small e ≡ true
 prints-small (posted p) h = every-at (postingTests p) 0 h
 prints-small (withdrawal now i) h = refl
 
 posting-price : (p : Posting) → postingFits p ≡ true → fitsUnsigned 8 (p .print .price) ≡ true
-posting-price p h = lt-ltb (p .print .price) (2 ^ 64) (lt-of-le-of-lt (leb-true (p .print .price) (2 ^ 63) (every-at (postingTests p) 0 h)) (lit< tt))
+posting-price p h = lt-ltb (p .print .price) (2 ^ 64) (lt-of-lt-of-le (ltb-true (p .print .price) (2 ^ 63) (every-at (postingTests p) 0 h)) (omega arith))
 
 maybe-published : (x : Option Posting) → maybe true postingFits x ≡ true → fits (maybe (pos 0) (λ p. p .print .published) x) ≡ true
 maybe-published none h = refl
@@ -116,10 +118,6 @@ bits-below o es =
 -- ---- the ledger's candidates
 
 module _ (o : Opening) (es : Log Event) (g : goodTerms (o .terms) ≡ true) (h : all eventFits es ≡ true) where
-  k-5 : o .terms .k ≤ 5
-  unfolding goodTerms
-  k-5 = leb-true (o .terms .k) 5 (every-at (termsTests (o .terms)) 8 g)
-
   prints-fit : all postingFits (prints es) ≡ true
   prints-fit = prints-all postingFits es (all-mono eventFits (ofPrints postingFits) event-prints es h)
 
@@ -139,8 +137,8 @@ module _ (o : Opening) (es : Log Event) (g : goodTerms (o .terms) ≡ true) (h :
   sum-fit : fitsUnsigned 16 (candidates o es .sum) ≡ true
   sum-fit = lt-ltb _ _ (lt-of-le-of-lt (sum-low o es g (all-mono eventFits (ofPrints small) prints-small es h)) (lit< tt))
 
-  few-links : leb (size (map (λ p. p .print .published) (chain o (prints es)))) 5 ≡ true
-  few-links = le-leb (size (map (λ p. p .print .published) (chain o (prints es)))) 5 (omega (arith, chain-size o (prints es), k-5))
+  links-few : leb (size (map (λ p. p .print .published) (chain o (prints es)))) 5 ≡ true
+  links-few = le-leb (size (map (λ p. p .print .published) (chain o (prints es)))) 5 (omega (arith, chain-size o (prints es), few-links o g))
 
   same-links : eqb (size (map (λ p. p .print .price) (chain o (prints es)))) (size (map (λ p. p .print .published) (chain o (prints es)))) ≡ true
   same-links = eq-eqb _ _ (size-map (λ p. p .print .price) (chain o (prints es)) ∙ sym (size-map (λ p. p .print .published) (chain o (prints es))))
@@ -151,7 +149,7 @@ module _ (o : Opening) (es : Log Event) (g : goodTerms (o .terms) ≡ true) (h :
       rw (
         bits-fit,
         sum-fit,
-        few-links,
+        links-few,
         same-links,
         all-map fits (λ p. p .print .published) (chain o (prints es)) (all-mono postingFits (λ p. fits (p .print .published)) (λ p f. every-at (postingTests p) 1 f) (chain o (prints es)) chain-fits),
         all-map (fitsUnsigned 8) (λ p. p .print .price) (chain o (prints es)) (all-mono postingFits (λ p. fitsUnsigned 8 (p .print .price)) posting-price (chain o (prints es)) chain-fits),
@@ -175,32 +173,7 @@ module _ (o : Opening) (es : Log Event) (g : goodTerms (o .terms) ≡ true) (h :
       rw (all<-yes slotPlaces (λ i. fitsUnsigned 8 (getD (listFrom 0 slotPlaces (priceAt o es)) i 0))
       (λ i l. rw (list-at slotPlaces (priceAt o es) i 0 l) (price-fits i)))
 
-  -- ---- samples and the price
-
-  slots-few : size (map (λ p. p .print .price) (upTo (slots (o .terms)) (holder o es))) ≤ 32
-  slots-few =
-      omega (
-        arith,
-        size-upTo (slots (o .terms)) (holder o es),
-        few-slots o g,
-        Σ<-le (slots (o .terms)) 1 (λ n. held (holder o es n)) (λ n l. le-of-suc-le-suc (held-small (holder o es n))),
-      )
-
-  chain-few : size (map (λ p. p .print .price) (chain o (prints es))) ≤ 32
-  chain-few = omega (arith, size-map (λ p. p .print .price) (chain o (prints es)), size-map (λ p. p .print .published) (chain o (prints es)), chain-size o (prints es), k-5)
-
-  fallback-few : (f : Option Posting) → size (map (λ p. p .print .price) (put ε f)) ≤ 32
-  fallback-few none = omega arith
-  fallback-few (some p) = omega arith
-
-  few : (m : Method) → size (pricesFor o es m) ≤ 32
-  unfolding pricesFor
-  few Method.Window = slots-few
-  few Method.NextPrint = chain-few
-  few Method.PartialNextPrint = chain-few
-  few Method.PartialWindow = slots-few
-  few Method.Fallback = fallback-few (fallback o (prints es))
-  few Method.Void = omega arith
+-- ---- samples and the price
 
 mean-fits : (s n : ℕ) (e : ℤ) (p : ℕ) → mean s n e ≡ ok p → fitsUnsigned 8 p ≡ true
 unfolding mean
@@ -215,23 +188,31 @@ mean-fits s n e p h = go (goodExponent e) (eqb n 0) (leb (2 ^ 64) a) refl h
     go true true z q h = cc
     go false y z q h = cc
 
-module _ (o : Opening) (es : Log Event) (g : goodTerms (o .terms) ≡ true) (h : all eventFits es ≡ true) where
-  pub outcome-fits : (t : ℤ) → final (decided o (candidates o es) t) ≡ true → outcomeFits (decided o (candidates o es) t) ≡ true
-  outcome-fits t f = go (decide-fair o es g t) f
-    where
-      go : {a : Answer} → FairAnswer o es a → final a ≡ true → outcomeFits a ≡ true
-      go opened f = f
-      go used f = f
-      go wait f = f
-      go (fair {m = m} {p = p} {n = n} s) f =
-          rw (
-            lt-ltb (number m) (number Method.Void) (s .byPrice),
-            mean-fits _ _ (o .terms .exponent) p (s .priced),
-            lt-ltb n (2 ^ 16) (omega (arith, s .counted, few o es g h m)),
-          )
-      go void f = refl
-      go done f = f
-      go refusal f = f
+few-ones : (n : ℕ) → ones n ≤ 32
+unfolding ones
+few-ones n = Σ<-le 32 1 (λ i. n / 2 ^ i % 2) (λ i _. digit (n / 2 ^ i))
+  where
+    digit : (q : ℕ) → q % 2 ≤ 1
+    digit q = omega arith
+
+pub outcome-fits : (r : Order) (o : Opening) (c : Candidates) → candidatesFit c ≡ true → (t : ℤ) → final (decidedBy r o c t) ≡ true → outcomeFits (decidedBy r o c t) ≡ true
+outcome-fits r o c f t =
+    decide-each (λ a. final a ≡ true → outcomeFits a ≡ true) (o .terms) (o .expiry) c t r (λ _ h. h) (λ h. h) (λ _. refl)
+    (by Method.Window (c .sum) _ refl slots-few) (by Method.NextPrint (total (c .prices)) _ refl links-few) (by Method.PartialNextPrint (total (c .prices)) _ refl links-few)
+    (by Method.PartialWindow (c .sum) _ refl slots-few) (λ _. by Method.Fallback (c .fallbackPrice) 1 refl (omega arith))
+  where
+    slots-few : ones (c .bits) < 2 ^ 16
+    slots-few = omega (arith, few-ones (c .bits))
+
+    links-few : size (c .times) < 2 ^ 16
+    links-few = omega (arith, few-times c f)
+
+    by : (m : Method) (s n : ℕ) → ltb (number m) (number Method.Void) ≡ true → n < 2 ^ 16 → final (settle (o .terms .exponent) m s n) ≡ true → outcomeFits (settle (o .terms .exponent) m s n) ≡ true
+    by m s n priced few = go (mean s n (o .terms .exponent)) refl
+      where
+        go : (r : Result ℕ) → mean s n (o .terms .exponent) ≡ r → final (settleAt m n r) ≡ true → outcomeFits (settleAt m n r) ≡ true
+        go (ok p) e h = rw (priced, mean-fits s n (o .terms .exponent) p e, lt-ltb n (2 ^ 16) few)
+        go (refused r) e h = h
 
 -- ---- the ledger
 
@@ -267,7 +248,7 @@ opening-fits (j ▹ c) o h e =
     go none (Fix now) d b e r = cc
     go none (Withdraw now i) d b e r = cc
 
--- what the freeze is: a fix with commands in range ahead of it, and a final decision
+-- what the freeze is: a fix with commands in range ahead of it, the opening among them, and a final decision
 module _ (z : Freeze) where
   pub freeze-fits : (j : Log Command) → all commandFits j ≡ true → freeze j ≡ some z → (all commandFits (z .ahead) ≡ true) × (fits (z .now) ≡ true)
   unfolding freeze
@@ -291,35 +272,36 @@ module _ (z : Freeze) where
           at true e = let y : _≡_ {A = Freeze} (record { ahead = j; now = now }) z = cc in (rw (← y) a, rw (← y) b)
           at false e = (cc, cc)
 
-  pub freeze-final : (j : Log Command) (o : Opening) → freeze j ≡ some z → opening j ≡ some o → final (decided o (candidates o (events (z .ahead))) (z .now)) ≡ true
+  pub freeze-final : (j : Log Command) (o : Opening) → freeze j ≡ some z → opening j ≡ some o
+      → (opening (z .ahead) ≡ some o) × (final (decided o (candidates o (events (z .ahead))) (z .now)) ≡ true)
   unfolding freeze opening
-  freeze-final ε o f e = cc
+  freeze-final ε o f e = (cc, cc)
   freeze-final (j ▹ c) o f e = go (opening j) (freeze j) c refl refl e f (freeze-final j o)
     where
       goal : Type 0
-      goal = final (decided o (candidates o (events (z .ahead))) (z .now)) ≡ true
+      goal = (opening (z .ahead) ≡ some o) × (final (decided o (candidates o (events (z .ahead))) (z .now)) ≡ true)
 
       go : (a : Option Opening) (y : Option Freeze) (c : Command) → opening j ≡ a → freeze j ≡ y → a orElse goodOpen c ≡ some o → y orElse freezes j c ≡ some z
           → (freeze j ≡ some z → opening j ≡ some o → goal) → goal
-      go none (some y) c d g e f r = let h = no-freeze j d in cc
-      go none none (Open q) d g e f r = cc
-      go none none (Offer q now) d g e f r = cc
-      go none none (Ask now) d g e f r = cc
-      go none none (Withdraw now i) d g e f r = cc
-      go none none (Fix now) d g e f r = let h = rw d at f in cc
+      go none (some y) c d g e f r = let h = no-freeze j d in (cc, cc)
+      go none none (Open q) d g e f r = (cc, cc)
+      go none none (Offer q now) d g e f r = (cc, cc)
+      go none none (Ask now) d g e f r = (cc, cc)
+      go none none (Withdraw now i) d g e f r = (cc, cc)
+      go none none (Fix now) d g e f r = let h = rw d at f in (cc, cc)
       go (some x) (some y) c d g e f r = r (g ∙ f) (d ∙ e)
-      go (some x) none (Open q) d g e f r = cc
-      go (some x) none (Offer q now) d g e f r = cc
-      go (some x) none (Ask now) d g e f r = cc
-      go (some x) none (Withdraw now i) d g e f r = cc
+      go (some x) none (Open q) d g e f r = (cc, cc)
+      go (some x) none (Offer q now) d g e f r = (cc, cc)
+      go (some x) none (Ask now) d g e f r = (cc, cc)
+      go (some x) none (Withdraw now i) d g e f r = (cc, cc)
       go (some x) none (Fix now) d g e f r = at (final (decided x (candidates x (events j)) now)) refl (rw d at f)
         where
           at : (b : Bool) → final (decided x (candidates x (events j)) now) ≡ b → (if b then some (record { ahead = j; now = now }) else none) ≡ some z → goal
           at true h f =
               let p : _≡_ {A = Freeze} (record { ahead = j; now = now }) z = cc in
               let q : x ≡ o = cc in
-              rw (← p, ← q) h
-          at false h f = cc
+              (rw (← p, ← q) d, rw (← p, ← q) h)
+          at false h f = (cc, cc)
 
 pub ledger-fits : (j : Log Command) → all commandFits j ≡ true → seriesFits (ledger j) ≡ true
 unfolding ledger takenEvents
@@ -337,6 +319,6 @@ ledger-fits j h = go (opening j) (freeze j) refl refl
           opening-fits j o h e,
           candidates-fit o es (opening-good j o e) (events-fit (z .ahead) a),
           prices-fit o es (opening-good j o e) (events-fit (z .ahead) a),
-          outcome-fits o es (opening-good j o e) (events-fit (z .ahead) a) (z .now) (freeze-final z j o f e),
+          outcome-fits Order.voted o (candidates o es) (candidates-fit o es (opening-good j o e) (events-fit (z .ahead) a)) (z .now) (freeze-final z j o f e .1),
           n,
         )

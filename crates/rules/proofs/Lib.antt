@@ -1,6 +1,7 @@
 pub mod Bools
 pub mod Integers
 pub mod Sums
+pub mod Bits
 pub mod Logs
 pub mod Fallback
 pub mod Place
@@ -9,12 +10,18 @@ pub mod Waits
 pub mod Prices
 pub mod State
 pub mod Fields
+pub mod Brought
 pub mod Acceptable
 pub mod Bytes
 pub mod SlotPrices
 pub mod Record
+pub mod Sound
 pub mod Withdraw
+pub mod Offer
+pub mod Leaves
+pub mod Read
 pub mod Examples
+pub mod Edges
 pub mod Decision
 pub mod Voted
 pub mod Slot

@@ -1,7 +1,7 @@
 -- Facts about logs: first, last, all, map, and the first n of a list.
 use Prim.Native.Nat.{ℕ, zero, suc, _+_, _<_, _≤_}
 use mathlib.Core.Path.{_≡_, refl, sym, ap, ap₂, _∙_, fun-ext}
-use mathlib.Core.Bool.{Bool, true, false, not}
+use mathlib.Core.Bool.{Bool, true, false, not, _&&_}
 use mathlib.Core.Option.{Option, none, some}
 use mathlib.Core.List.{List}
 use native.Mathlib.Omega.{arith}
@@ -10,7 +10,7 @@ use lib.Seq.{ext-getD, getD-set-same, getD-set-other}
 use lib.Dec.{eqb}
 use lib.Arith.{lt-of-le-ne}
 use borrow.Author.Tests.{eq-eqb, ne-eqb, eqb-true, eqb-false}
-use Rattle.rules.proofs.Bools.{both}
+use Rattle.rules.proofs.Bools.{both, and-false}
 use Rattle.rules.specs.Log.{Log, ε, _▹_, if_then_else_, _orElse_, maybe, size, put, all, first, last, lastAt, map, nth, front, listFrom}
 
 module _ {A : Type 0} where
@@ -108,6 +108,20 @@ module _ {A : Type 0} where
   unfolding nth
   nth-after d ε i h = refl
   nth-after d (l ▹ x) i h = rw (ne-eqb i (size l) (omega arith)) (nth-after d l i (omega arith))
+
+  pub front-all : (Q : A → Bool) (d : A) (n : ℕ) (xs : List A) → ((i : ℕ) → Q (getD xs i d) ≡ true) → all Q (front d n xs) ≡ true
+  unfolding front
+  front-all Q d zero xs h = refl
+  front-all Q d (suc n) xs h = rw (front-all Q d n xs h, h n)
+
+  pub front-no : (Q : A → Bool) (d : A) (n : ℕ) (xs : List A) (i : ℕ) → i < n → Q (getD xs i d) ≡ false → all Q (front d n xs) ≡ false
+  unfolding front
+  front-no Q d zero xs i l e = absurd (omega arith)
+  front-no Q d (suc n) xs i l e = go (eqb i n) refl (λ m. front-no Q d n xs i m e)
+    where
+      go : (b : Bool) → eqb i n ≡ b → (i < n → all Q (front d n xs) ≡ false) → all Q (front d n xs) && Q (getD xs n d) ≡ false
+      go true q r = ap (λ (x : Bool). all Q (front d n xs) && x) (ap (λ (k : ℕ). Q (getD xs k d)) (sym (eqb-true i n q)) ∙ e) ∙ and-false (all Q (front d n xs))
+      go false q r = rw (r (lt-of-le-ne (omega arith) (eqb-false i n q)))
 
   pub nth-front : (d : A) (n : ℕ) (xs : List A) (i : ℕ) → i < n → nth d (front d n xs) i ≡ getD xs i d
   unfolding front nth

@@ -8,7 +8,7 @@ use native.Mathlib.Nat.{mul-le-mul-right, suc-mul, one-mul, zero-mul, lt-of-le-o
 use lib.ListN.{getD, set}
 use lib.IntN.{ℤ, pos, _+ℤ_, _-ℤ_}
 use lib.Signed.{ltZ, leZ}
-use lib.Dec.{ltb, leb, eqb, lit<}
+use lib.Dec.{ltb, eqb, lit<}
 use lib.Arith.{lt-of-le-ne}
 use borrow.Author.Tests.{ltb-true, ltb-false, leb-true, lt-ltb, eq-eqb, ne-eqb, eqb-true}
 use Rattle.rules.proofs.Bools.{both, or-true, every-at, push}
@@ -280,6 +280,10 @@ pub few-slots : (o : Opening) → goodTerms (o .terms) ≡ true → slots (o .te
 unfolding goodTerms
 few-slots o g = leb-true (slots (o .terms)) 32 (every-at (termsTests (o .terms)) 3 g)
 
+pub few-links : (o : Opening) → goodTerms (o .terms) ≡ true → o .terms .k ≤ 5
+unfolding goodTerms
+few-links o g = leb-true (o .terms .k) 5 (every-at (termsTests (o .terms)) 8 g)
+
 -- one more print leaves what an offer of it leaves
 pub holdings-more : (o : Opening) (es : Log Event) (p : Posting) → goodTerms (o .terms) ≡ true → ltZ (pos 0) (p .print .published) ≡ true
     → holdings o (es ▹ posted p) ≡ offerHeld o (holdings o es) (p .now) (ok (p .print))
@@ -375,7 +379,7 @@ place-unusable t E c p now h = go (slotFor t E c p) (isLink t E c p) (isFallback
 
 -- a price as it comes from an i64
 abbrev pub small : Posting → Bool
-small p = leb (p .print .price) (2 ^ 63)
+small p = ltb (p .print .price) (2 ^ 63)
 
 -- what holds of every taken print, where P says nothing of a withdrawal
 abbrev pub ofPrints : (Posting → Bool) → Event → Bool
@@ -404,7 +408,7 @@ holder-all o P es i a = first-all (λ p. canonical (o .terms) (o .expiry) i (p .
 
 price-small : (h : Option Posting) → maybe true small h ≡ true → maybe 0 (λ q. q .print .price) h ≤ 2 ^ 63
 price-small none e = omega arith
-price-small (some q) e = leb-true (q .print .price) (2 ^ 63) e
+price-small (some q) e = omega tests
 
 -- the prices of 32 such prints don't reach 2^128
 pub sum-low : (o : Opening) (es : Log Event) → goodTerms (o .terms) ≡ true → all (ofPrints small) es ≡ true → candidates o es .sum ≤ 32 * 2 ^ 63

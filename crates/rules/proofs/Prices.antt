@@ -44,7 +44,7 @@ total-upTo (suc n) h = go (h n) (total-upTo n h)
     go none r = omega arith
     go (some p) r = rw r
 
-pub size-upTo : (n : ℕ) (h : ℕ → Option Posting) → size (map (λ p. p .print .price) (upTo n h)) ≡ Σ< n (λ i. held (h i))
+size-upTo : (n : ℕ) (h : ℕ → Option Posting) → size (map (λ p. p .print .price) (upTo n h)) ≡ Σ< n (λ i. held (h i))
 unfolding held
 size-upTo zero h = refl
 size-upTo (suc n) h = go (h n) (size-upTo n h)
@@ -102,7 +102,7 @@ module _ (o : Opening) (es : Log Event) (g : goodTerms (o .terms) ≡ true) wher
       go none e = (cc, cc)
       go (some p) e = (omega arith, refl)
 
-  pub decide-fair : (t : ℤ) → FairAnswer o es (decided o (candidates o es) t)
+  decide-fair : (t : ℤ) → FairAnswer o es (decided o (candidates o es) t)
   unfolding pricesFor
   decide-fair t =
       decide-each (FairAnswer o es) (o .terms) (o .expiry) c t _ (λ u. wait) refusal void

@@ -20,15 +20,15 @@ use Rattle.rules.proofs.Sums.{all<-at}
 use Rattle.rules.proofs.State.{fit-at, few-times, parts-back}
 use Rattle.rules.proofs.Decision.{byPrice, decide-by-price}
 use Rattle.rules.proofs.Fields.{commandFits, ledger-fits}
-use Rattle.rules.proofs.Acceptable.{sound, ledger-sound}
+use Rattle.rules.proofs.Acceptable.{soundTests, sound, ledger-sound}
 use Rattle.rules.specs.Log.{Log, ε, _▹_, if_then_else_, maybe, size, all, nth, every, all<, listFrom}
 use Rattle.rules.specs.Bytes.{Bytes, zeros, allZero, concat, little, signed, unsignedAt, signedAt, bytes, word, signedBytes, fitsUnsigned, fits}
 use Rattle.rules.specs.Answers.{ok, Method, number, method, Answer, Opened, Used, Wait, Settle, Done, Refused, final}
-use Rattle.rules.specs.Terms.{goodTerms}
 use Rattle.rules.specs.Taking.{Candidates}
 use Rattle.rules.specs.Decision.{Order}
-use Rattle.rules.specs.State.{candidatesOf, partsOf, goodState}
+use Rattle.rules.specs.State.{candidatesOf, partsOf}
 use Rattle.rules.specs.Series.{Opening, Command, Holdings, slotPlaces, Series, empty, live, fixed, decidedBy}
+use Rattle.rules.specs.Brought.{leftByPrints}
 use Rattle.rules.specs.Record.{methodOf, samplesOf, priceOf, eight, fields, tagOf, priceBytes, bytesOf, outcome, goodPrices, openingIn, partsIn, pricesIn, holdingsIn, tagIn, samplesIn, methodIn, fixingTimeIn, priceIn, orderIn, seriesIn, bodyTests, openTests, fixedTests, acceptable, stored, openingFields, openingFits, candidatesFit, pricesFit, outcomeFits, seriesFits}
 use Rattle.rules.specs.Ledger.{opening, takenEvents, holdings, Freeze, freeze, since, ledger}
 
@@ -189,8 +189,19 @@ module _ (tag : ℕ) (o : Opening) (h : Holdings) (samples num : ℕ) (time : �
   unfolding unsignedAt fields zeros bytes partsOf
   tag-read f = little-bytes 1 tag f
 
-  pub body-passes : goodTerms (o .terms) ≡ true → goodState (o .terms) (partsOf c) ≡ true → goodPrices h ≡ true → every (bodyTests R) ≡ true
-  body-passes g s p = rw (ap goodPrices holdings-read, p, opening-back, parts-read, g, s, pad-read)
+  pub body-passes : every (soundTests o h) ≡ true → every (bodyTests R) ≡ true
+  body-passes k =
+      rw (
+        ap goodPrices holdings-read,
+        opening-back,
+        ap (leftByPrints o) holdings-read,
+        parts-read,
+        pad-read,
+        every-at (soundTests o h) 0 k,
+        every-at (soundTests o h) 1 k,
+        every-at (soundTests o h) 2 k,
+        every-at (soundTests o h) 3 k,
+      )
 
 -- ---- outcomes
 
@@ -334,14 +345,14 @@ module _ (r : Order) (o : Opening) (h : Holdings) (a : Answer) (at : ℤ) (fo : 
       rw (fixed-order, fixed-tag, tags r .1, tags r .2, fixed-opening, fixed-holdings, fixing-time-back, method-back, samples-back, fixed-price-back)
       (ap (λ x. fixed r o h x at) (outcome-back a (fitting a fa .0) (fitting a fa .1)))
 
-  fixed-body : goodTerms (o .terms) ≡ true → goodState (o .terms) (partsOf (h .candidates)) ≡ true → goodPrices h ≡ true → every (bodyTests (bytesOf (fixed r o h a at))) ≡ true
+  fixed-body : every (soundTests o h) ≡ true → every (bodyTests (bytesOf (fixed r o h a at))) ≡ true
   unfolding bytesOf
-  fixed-body g s p = body-passes (tagOf r) o h (samplesOf a) (methodOf a) at (priceOf a) fo fc fp g s p
+  fixed-body k = body-passes (tagOf r) o h (samplesOf a) (methodOf a) at (priceOf a) fo fc fp k
 
-  fixed-acceptable : goodTerms (o .terms) ≡ true → goodState (o .terms) (partsOf (h .candidates)) ≡ true → goodPrices h ≡ true
+  fixed-acceptable : every (soundTests o h) ≡ true
       → final (decidedBy r o (h .candidates) at) ≡ true → a ≡ decidedBy r o (h .candidates) at → acceptable (bytesOf (fixed r o h a at)) ≡ true
   unfolding acceptable
-  fixed-acceptable g s p f e =
+  fixed-acceptable k f e =
       let settles : final a ≡ true = ap final e ∙ f in
       rw (
         fixed-order,
@@ -349,7 +360,7 @@ module _ (r : Order) (o : Opening) (h : Holdings) (a : Answer) (at : ℤ) (fo : 
         tags r .1,
         tags r .2,
         tags r .3,
-        fixed-body g s p,
+        fixed-body k,
         fixed-opening,
         ap (λ (x : Holdings). x .candidates) fixed-holdings,
         fixing-time-back,
@@ -383,11 +394,10 @@ honest (live o h) = Unit
 honest (fixed r o h a at) = a ≡ decidedBy r o (h .candidates) at
 
 live-acceptable : (o : Opening) (h : Holdings) → openingFits o ≡ true → candidatesFit (h .candidates) ≡ true → pricesFit (h .slotPrices) ≡ true
-    → goodTerms (o .terms) ≡ true → goodState (o .terms) (partsOf (h .candidates)) ≡ true → goodPrices h ≡ true
-    → acceptable (bytesOf (live o h)) ≡ true
+    → every (soundTests o h) ≡ true → acceptable (bytesOf (live o h)) ≡ true
 unfolding acceptable bytesOf
-live-acceptable o h fo fc fp g s p =
-    rw (tag-read 1 o h 0 0 (pos 0) 0 fo fc fp refl, body-passes 1 o h 0 0 (pos 0) 0 fo fc fp g s p)
+live-acceptable o h fo fc fp k =
+    rw (tag-read 1 o h 0 0 (pos 0) 0 fo fc fp refl, body-passes 1 o h 0 0 (pos 0) 0 fo fc fp k)
     (unfold unsignedAt fields zeros bytes partsOf word in refl)
 
 written-acceptable : (s : Series) → seriesFits s ≡ true → sound s ≡ true → honest s → acceptable (bytesOf s) ≡ true
@@ -395,13 +405,11 @@ unfolding acceptable bytesOf unsignedAt zeros
 written-acceptable empty f k e = refl
 written-acceptable (live o h) f k e =
     let tests : List Bool = openingFits o ∷ candidatesFit (h .candidates) ∷ pricesFit (h .slotPrices) ∷ [] in
-    let sounds : List Bool = goodTerms (o .terms) ∷ goodState (o .terms) (partsOf (h .candidates)) ∷ goodPrices h ∷ [] in
-    live-acceptable o h (every-at tests 0 f) (every-at tests 1 f) (every-at tests 2 f) (every-at sounds 0 k) (every-at sounds 1 k) (every-at sounds 2 k)
+    live-acceptable o h (every-at tests 0 f) (every-at tests 1 f) (every-at tests 2 f) k
 written-acceptable (fixed r o h a at) f k e =
     let tests : List Bool = openingFits o ∷ candidatesFit (h .candidates) ∷ pricesFit (h .slotPrices) ∷ outcomeFits a ∷ fits at ∷ [] in
-    let sounds : List Bool = goodTerms (o .terms) ∷ goodState (o .terms) (partsOf (h .candidates)) ∷ goodPrices h ∷ final (decidedBy r o (h .candidates) at) ∷ [] in
-    fixed-acceptable r o h a at (every-at tests 0 f) (every-at tests 1 f) (every-at tests 2 f) (every-at tests 3 f) (every-at tests 4 f)
-    (every-at sounds 0 k) (every-at sounds 1 k) (every-at sounds 2 k) (every-at sounds 3 k) e
+    let (x, y) = both (every (soundTests o h)) (final (decidedBy r o (h .candidates) at)) k in
+    fixed-acceptable r o h a at (every-at tests 0 f) (every-at tests 1 f) (every-at tests 2 f) (every-at tests 3 f) (every-at tests 4 f) x y e
 
 pub written-stored : (s : Series) → seriesFits s ≡ true → sound s ≡ true → honest s → stored (bytesOf s) ≡ ok s
 unfolding stored

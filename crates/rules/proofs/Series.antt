@@ -4,9 +4,9 @@ use mathlib.Core.Path.{_≡_, refl, sym, ap, _∙_}
 use mathlib.Core.Bool.{Bool, true, false, not, _&&_, _||_}
 use mathlib.Core.Option.{Option, none, some}
 use lib.ListN.{set}
-use lib.IntN.{ℤ, pos, natAbs}
-use lib.Signed.{ltZ, leZ, natAbs-le}
-use lib.Dec.{ltb, leb, eqb}
+use lib.IntN.{ℤ, pos, negsuc, natAbs}
+use lib.Signed.{ltZ, leZ}
+use lib.Dec.{ltb, eqb}
 use borrow.Author.Tests.{ltb-true, ltb-false, le-leb, lt-leb, eqb-false, lt-ltb}
 use native.Mathlib.Omega.{arith}
 use Rattle.rules.proofs.Bools.{both}
@@ -43,23 +43,30 @@ module _ (e : ℤ) (bps : ℕ) (q : Quote) (p : Print) where
       go false false c d g h = (cc, cc)
       go true b c d g h = (cc, cc)
 
-  pub accept-small : fits (q .price) ≡ true → accept e bps q ≡ ok p → leb (p .price) (2 ^ 63) ≡ true
+  pub accept-small : fits (q .price) ≡ true → accept e bps q ≡ ok p → ltb (p .price) (2 ^ 63) ≡ true
+  unfolding accept
   accept-small f h =
       let (_, m) = accept-facts h in
-      ap (λ (x : Print). leb (x .price) (2 ^ 63)) (sym m) ∙ le-leb (natAbs (q .price)) (2 ^ 63) (natAbs-le (q .price) (ltb-true _ (2 ^ 63) f))
+      ap (λ (x : Print). ltb (x .price) (2 ^ 63)) (sym m) ∙ go (q .price) f h
+    where
+      go : (z : ℤ) → fits z ≡ true
+          → (if leZ z (pos 0) then refused 13 else if not (eqZ (q .exponent) e) then refused 16 else if ltb (natAbs z * bps) (q .conf * 10_000) then refused 17
+          else newPrint (record { price = natAbs z; published = q .published; prev = q .prev })) ≡ ok p → ltb (natAbs z) (2 ^ 63) ≡ true
+      go (pos n) f h = f
+      go (negsuc n) f h = cc
 
--- a good print's price and publish time are positive
-pub good-positive : (p : Print) → goodPrint p ≡ true → (ltb 0 (p .price) ≡ true) × (ltZ (pos 0) (p .published) ≡ true)
+-- a good print's price and times are positive
+pub good-positive : (p : Print) → goodPrint p ≡ true → (ltb 0 (p .price) ≡ true) × (ltZ (pos 0) (p .published) ≡ true) × (ltZ (pos 0) (p .prev) ≡ true)
 good-positive p g = go (eqb (p .price) 0) (leZ (p .prev) (pos 0)) (ltZ (p .published) (p .prev)) refl refl refl g
   where
     go : (a b c : Bool) → eqb (p .price) 0 ≡ a → leZ (p .prev) (pos 0) ≡ b → ltZ (p .published) (p .prev) ≡ c → not (a || b || c) ≡ true
-        → (ltb 0 (p .price) ≡ true) × (ltZ (pos 0) (p .published) ≡ true)
-    go true b c x y z h = (cc, cc)
-    go false true c x y z h = (cc, cc)
-    go false false true x y z h = (cc, cc)
+        → (ltb 0 (p .price) ≡ true) × (ltZ (pos 0) (p .published) ≡ true) × (ltZ (pos 0) (p .prev) ≡ true)
+    go true b c x y z h = (cc, cc, cc)
+    go false true c x y z h = (cc, cc, cc)
+    go false false true x y z h = (cc, cc, cc)
     go false false false x y z h =
         let n = eqb-false (p .price) 0 x in
-        (lt-ltb 0 (p .price) (omega arith), lt-le-trans (pos 0) (p .prev) (p .published) (le-false (p .prev) (pos 0) y) (lt-false (p .published) (p .prev) z))
+        (lt-ltb 0 (p .price) (omega arith), lt-le-trans (pos 0) (p .prev) (p .published) (le-false (p .prev) (pos 0) y) (lt-false (p .published) (p .prev) z), le-false (p .prev) (pos 0) y)
 
 -- ---- before the opening
 
@@ -129,6 +136,26 @@ taken-all P good h w (j ▹ c) a =
         at true (refused r) e = refl
         at true (ok p) e = h o q now p a e
         at false r e = refl
+
+-- no print is taken where one of the two times that it is measured by does not fit
+pub no-prints : (j : Log Command) (o : Opening) → opening j ≡ some o → timesFit (o .terms) (o .expiry) ≡ false → all (ofPrints (λ p. false)) (events j) ≡ true
+unfolding opening events
+no-prints ε o e f = refl
+no-prints (j ▹ c) o e f = go (opening j) refl e (no-prints j o)
+  where
+    go : (x : Option Opening) → opening j ≡ x → x orElse goodOpen c ≡ some o → (opening j ≡ some o → timesFit (o .terms) (o .expiry) ≡ false → all (ofPrints (λ p. false)) (events j) ≡ true)
+        → all (ofPrints (λ p. false)) (put (events j) (taken x c)) ≡ true
+    go none d e r = rw (no-events j d)
+    go (some x) d e r =
+        let y : x ≡ o = cc in
+        all-put (ofPrints (λ p. false)) (events j) (taken (some x) c) (r (d ∙ e) f) (none-of c y)
+      where
+        none-of : (c : Command) → x ≡ o → maybe true (ofPrints (λ p. false)) (taken (some x) c) ≡ true
+        none-of (Open q) y = refl
+        none-of (Offer q now) y = rw (y, f)
+        none-of (Ask now) y = refl
+        none-of (Fix now) y = refl
+        none-of (Withdraw now i) y = refl
 
 -- an offer's price as it comes from an i64
 abbrev pub inRange : Command → Bool

@@ -1,22 +1,22 @@
 -- Candidates and the parts that they are stored as.
-use Prim.Native.Nat.{ℕ, zero, suc, _<_, _≤_}
+use Prim.Native.Nat.{ℕ, zero, suc, _^_, _<_, _≤_}
 use mathlib.Core.Path.{_≡_, refl, sym, ap, _∙_}
 use mathlib.Core.List.{List, [], _∷_}
-use mathlib.Core.Bool.{Bool, true, false, _&&_, _||_}
+use mathlib.Core.Bool.{Bool, true, false, _&&_, _||_, Bool·beq}
 use native.Mathlib.Omega.{arith}
 use lib.ListN.{length, getD}
 use lib.IntN.{ℤ, pos, negsuc}
 use lib.Signed.{leZ}
-use lib.Dec.{ltb, eqb}
+use lib.Dec.{ltb, leb, eqb}
 use borrow.Author.Tests.{ltb-true, ltb-false, leb-true, eqb-true}
 use Rattle.rules.proofs.Bools.{both, test, every-at}
 use Rattle.rules.proofs.Integers.{tests}
 use Rattle.rules.proofs.Logs.{front-nth, size-front, nth-front, nth-after}
-use Rattle.rules.specs.Log.{Log, size, nth, front}
-use Rattle.rules.specs.Terms.{Terms}
+use Rattle.rules.specs.Log.{Log, size, all, nth, front, every}
+use Rattle.rules.specs.Terms.{Terms, slots}
 use Rattle.rules.specs.Prints.{eqZ}
 use Rattle.rules.specs.Taking.{Candidates}
-use Rattle.rules.specs.State.{Parts, candidatesOf, five, partsOf, zeroAfter, restoreTests, goodState}
+use Rattle.rules.specs.State.{Parts, candidatesOf, five, partsOf, rising, zeroAfter, restoreTests, goodState}
 use Rattle.rules.specs.Record.{candidatesFields, candidatesFit}
 
 pub five-at : {A : Type 0} (d : A) (l : Log A) (j : ℕ) → j < 5 → getD (five d l) j d ≡ nth d l j
@@ -56,6 +56,25 @@ module _ (c : Candidates) (f : candidatesFit c ≡ true) where
       go : (t : Bool) → ltb j (size (c .times)) ≡ t → t || (eqZ (nth (pos 0) (c .times) j) (pos 0) && eqb (nth 0 (c .prices) j) 0) ≡ true
       go true e = refl
       go false e = rw (nth-after (pos 0) (c .times) j (omega tests), nth-after 0 (c .prices) j (omega (tests, same-sizes)))
+
+-- `restore`'s test, on the parts of candidates
+abbrev pub stateTests : Terms → Candidates → List Bool
+stateTests t c =
+    ltb (c .bits) (2 ^ slots t) ∷ Bool·beq (eqb (c .bits) 0) (eqb (c .sum) 0)
+    ∷ leb (size (c .times)) (t .k) ∷ rising (c .times) ∷ all (λ price. ltb 0 price) (c .prices)
+    ∷ Bool·beq (eqZ (c .fallbackTime) (pos 0)) (eqb (c .fallbackPrice) 0) ∷ []
+
+pub state-tests : (t : Terms) (c : Candidates) → candidatesFit c ≡ true → goodState t (partsOf c) ≡ every (stateTests t c)
+unfolding goodState partsOf
+state-tests t c f =
+    rw (
+      parts-back c f,
+      zeros-after c f 0 (omega arith),
+      zeros-after c f 1 (omega arith),
+      zeros-after c f 2 (omega arith),
+      zeros-after c f 3 (omega arith),
+      zeros-after c f 4 (omega arith),
+    )
 
 -- ---- parts that pass `restore`'s test
 

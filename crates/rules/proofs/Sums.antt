@@ -10,7 +10,7 @@ use lib.Arith.{lt-of-le-ne}
 use borrow.Author.Tests.{eqb-true, eqb-false}
 use lib.Dec.{eqb}
 use Rattle.rules.specs.Log.{if_then_else_, find, Σ<, all<, _orElse_}
-use Rattle.rules.proofs.Bools.{both}
+use Rattle.rules.proofs.Bools.{both, not-both}
 
 -- ---- sums
 
@@ -65,6 +65,13 @@ all<-at (suc n) P e i l = let (a, b) = both (all< n P) (P n) e in go (eqb i n) r
     go true q b r = ap P (eqb-true i n q) ∙ b
     go false q b r = r (lt-of-le-ne (omega arith) (eqb-false i n q))
 
+pub all<-no : (n : ℕ) (P : ℕ → Bool) (i : ℕ) → i < n → P i ≡ false → all< n P ≡ false
+all<-no n P i l e = go (all< n P) refl
+  where
+    go : (b : Bool) → all< n P ≡ b → all< n P ≡ false
+    go true q = absurd (not-both (all<-at n P q i l) e)
+    go false q = q
+
 -- one of them is no more than all
 pub Σ<-part : (n : ℕ) (f : ℕ → ℕ) (i : ℕ) → i < n → f i ≤ Σ< n f
 Σ<-part zero f i l = absurd (omega arith)
@@ -103,7 +110,7 @@ find-some (suc n) P k e = go (find n P) (P n) refl refl e (λ q. find-some n P k
 
 -- ---- digits
 
-shift : (b i n : ℕ) → i < n → b * 2 ^ n ≡ b * 2 ^ (n - suc i) * 2 * 2 ^ i
+pub shift : (b i n : ℕ) → i < n → b * 2 ^ n ≡ b * 2 ^ (n - suc i) * 2 * 2 ^ i
 shift b i n l = ap (λ x. b * 2 ^ x) e ∙ rw (pow-add 2 (suc (n - suc i)) i, pow-suc 2 (n - suc i)) (simp mul-assoc)
   where
     e : n ≡ suc (n - suc i) + i

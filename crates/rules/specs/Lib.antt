@@ -8,6 +8,7 @@ pub mod Taking
 pub mod Decision
 pub mod State
 pub mod Series
+pub mod Brought
 pub mod Record
 pub mod Entries
 pub mod Book

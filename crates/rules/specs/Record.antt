@@ -13,6 +13,7 @@ use Rattle.rules.specs.Taking.{Candidates, bit}
 use Rattle.rules.specs.Decision.{Order}
 use Rattle.rules.specs.State.{Parts, candidatesOf, partsOf, goodState}
 use Rattle.rules.specs.Series.{Opening, Holdings, slotPlaces, Series, empty, live, fixed, decidedBy}
+use Rattle.rules.specs.Brought.{leftByPrints}
 
 abbrev pub recordSize : ℕ
 recordSize = 456
@@ -188,9 +189,11 @@ module _ (bs : Bytes) where
 
   -- ---- the acceptable records
 
-  -- "Otherwise terms accepted and state accepted by `restore`"; "37–39 zero"; #103's test of the slot prices
+  -- "Otherwise terms accepted and state accepted by `restore`"; "37–39 zero"; #103's test of the slot prices; #111's of what prints leave
   abbrev pub bodyTests : List Bool
-  bodyTests = goodTerms (openingIn .terms) ∷ goodState (openingIn .terms) partsIn ∷ eqb (unsignedAt bs 37 3) 0 ∷ goodPrices holdingsIn ∷ []
+  bodyTests =
+      goodTerms (openingIn .terms) ∷ goodState (openingIn .terms) partsIn ∷ eqb (unsignedAt bs 37 3) 0
+      ∷ goodPrices holdingsIn ∷ leftByPrints openingIn holdingsIn ∷ []
 
   -- "Tag 1: samples, method, fixing time and price zero."
   abbrev pub openTests : List Bool

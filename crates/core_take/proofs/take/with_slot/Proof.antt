@@ -9,7 +9,8 @@ use Rattle.rules.proofs.Bools.{both}
 use Rattle.numbers.specs.Wides.{wideOf}
 use Rattle.core_parts.specs.States.{storedOf}
 use Rattle.core_take.specs.Placing.{fillable}
-use Rattle.core_take.proofs.Bits.{mask-is, put-fits}
+use Rattle.rules.proofs.Bits.{put-fits}
+use Rattle.core_take.proofs.Bits.{mask-is}
 use borrow.Author.Needs.{needs}
 use Rattle.core_take.proofs.take.with_slot.Statement.{statement}
 use Rattle.core_take.proofs.take.with_slot.Tie as tie

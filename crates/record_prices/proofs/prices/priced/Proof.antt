@@ -1,6 +1,6 @@
 -- The loop's invariant: the slots passed have no price.
 use Prim.Native.Nat.{ℕ, _+_, _*_, _≤_}
-use mathlib.Core.Path.{_≡_, refl, sym, ap, _∙_}
+use mathlib.Core.Path.{_≡_, refl, sym, _∙_}
 use native.Mathlib.Omega.{arith}
 use lib.Dec.{eqb}
 use lib.Bits.{bitOr}
@@ -9,7 +9,7 @@ use Rattle.rules.proofs.Bools.{both, either-zero}
 use Rattle.rules.proofs.Bytes.{are-bytes}
 use Rattle.rules.specs.Bytes.{Bytes, unsignedAt}
 use Rattle.record_prices.specs.Left.{Left}
-use Rattle.record_prices.proofs.Left.{left-none, left-next}
+use Rattle.record_prices.proofs.Left.{left-none, pair-next}
 use borrow.Author.Needs.{needs}
 use Rattle.record_prices.proofs.prices.priced.Statement.{statement}
 use Rattle.record_prices.proofs.prices.priced.Tie as tie
@@ -25,9 +25,7 @@ next : (bs : Bytes) (pairs fewer lower upper : ℕ) → pairs ≡ fewer + 1 → 
     → bitOr lower upper ≡ 0 → Left bs (2 * pairs) 0 0 → Left bs (2 * fewer) 0 0
 next bs pairs fewer lower upper e l u z left =
     let (x, y) = both (eqb lower 0) (eqb upper 0) (sym (either-zero lower upper) ∙ eq-eqb (bitOr lower upper) 0 z) in
-    let low : 0 ≡ unsignedAt bs (200 + 8 * (2 * fewer)) 8 = sym (eqb-true lower 0 x) ∙ l ∙ ap (λ (k : ℕ). unsignedAt bs k 8) (omega arith) in
-    let up : 0 ≡ unsignedAt bs (200 + 8 * (2 * fewer + 1)) 8 = sym (eqb-true upper 0 y) ∙ u ∙ ap (λ (k : ℕ). unsignedAt bs k 8) (omega arith) in
-    left-next bs (2 * fewer + 1) (2 * fewer) 0 0 0 0 0 (left-next bs (2 * pairs) (2 * fewer + 1) 0 0 0 0 0 left (omega (arith, e)) up refl refl) refl low refl refl
+    pair-next bs pairs fewer 0 0 0 0 left e (sym (eqb-true lower 0 x) ∙ l) (sym (eqb-true upper 0 y) ∙ u) 0 0 0 0 refl refl refl refl refl
 
 cast-pairs : tie.Need-cast-pairs Inv-loop μ-loop
 cast-pairs c = omega arith
@@ -53,9 +51,6 @@ add-u64-at c = omega arith
 u64-at-requires-2 : tie.Need-u64-at-requires-2 Inv-loop μ-loop
 u64-at-requires-2 c κs = search needs
 
-mul-result : tie.Need-mul-result Inv-loop μ-loop
-mul-result c = omega arith
-
 returns : tie.Need-returns Inv-loop μ-loop
 returns c = c .before .before .before .before .loop .inv .1
 
@@ -70,9 +65,6 @@ loop-again c =
     let l = c .before .before .before .before .loop in
     let bs = c .before .before .before .before .before .before .args .bytes .now in
     (omega arith, next bs (l .pairs) _ _ _ (omega arith) (c .before .before .u64-at .ensures) (c .before .u64-at2 .ensures) (c .if1 .left) (l .inv .1))
-
-mul-result-2 : tie.Need-mul-result-2 Inv-loop μ-loop
-mul-result-2 c = omega arith
 
 returns-2 : tie.Need-returns-2 Inv-loop μ-loop
 returns-2 c = c .before .loop .inv .1
@@ -91,10 +83,8 @@ priced-spec =
     u64-at-requires
     add-u64-at
     u64-at-requires-2
-    mul-result
     returns
     sub-pairs
     loop-less
     loop-again
-    mul-result-2
     returns-2)

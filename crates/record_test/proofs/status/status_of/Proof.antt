@@ -6,7 +6,8 @@ use lib.Dec.{ltb, eqb}
 use borrow.Author.Needs.{needs}
 use borrow.Author.Tests.{lt-ltb, le-ltb, eq-eqb}
 use Rattle.rules.specs.Bytes.{unsignedAt}
-use Rattle.rules.specs.Record.{recordSize, goodPrices, holdingsIn, tagIn}
+use Rattle.rules.specs.Record.{recordSize, tagIn}
+use Rattle.record_test.specs.Statuses.{goodHoldings}
 use Rattle.core_parts.proofs.Places.{passed, failed}
 use Rattle.fields.proofs.Offsets.{missed}
 use Rattle.record_test.proofs.status.status_of.Statement.{statement}
@@ -50,17 +51,17 @@ returns-4 c =
     let l = c .before .before in
     sym (rw (some-tag (l .before), low-tag l, missed 0 (c .before .u24-at .ensures) (c .if4 .taken)))
 
-prices-stand-requires : tie.Need-prices-stand-requires
-prices-stand-requires c κs = search needs
+holdings-stand-requires : tie.Need-holdings-stand-requires
+holdings-stand-requires c κs = search needs
 
 padded : (c : tie.Else4) → unsignedAt (c .before .before .before .before .before .before .args .bytes .now) 37 3 ≡ 0
 padded c = sym (c .before .u24-at .ensures) ∙ c .if4 .left
 
--- the test of the slot prices is asked of a record
-tested : (c : tie.After-prices-stand) → c .prices-stand .result ≡ goodPrices (holdingsIn (c .before .before .before .before .before .before .before .args .bytes .now))
+-- the test is asked of a record
+tested : (c : tie.After-holdings-stand) → c .holdings-stand .result ≡ goodHoldings (c .before .before .before .before .before .before .before .args .bytes .now)
 tested c =
     let s = c .before .before .before .before .before .before .before in
-    c .prices-stand .ensures ∙ rw (eq-eqb (length (s .args .bytes .now)) recordSize (s .pre))
+    c .holdings-stand .ensures ∙ rw (eq-eqb (length (s .args .bytes .now)) recordSize (s .pre))
 
 returns-5 : tie.Need-returns-5
 returns-5 c =
@@ -68,9 +69,9 @@ returns-5 c =
     let l = z .before .before in
     sym (rw (some-tag (l .before), low-tag l, padded z, failed (tested (c .before)) (c .if5 .taken)))
 
--- the slot prices are right
-priced : (c : tie.Else5) → goodPrices (holdingsIn (c .before .before .before .before .before .before .before .before .args .bytes .now)) ≡ true
-priced c = passed (tested (c .before)) (c .if5 .left)
+-- what prints leave
+left : (c : tie.Else5) → goodHoldings (c .before .before .before .before .before .before .before .before .args .bytes .now) ≡ true
+left c = passed (tested (c .before)) (c .if5 .left)
 
 no-outcome-requires : tie.Need-no-outcome-requires
 no-outcome-requires c κs = search needs
@@ -82,7 +83,7 @@ returns-6 c =
     let p = o .before in
     let z = p .before .before in
     let one = sym (z .before .before .before .before .u8-at .ensures) ∙ o .if6 .taken in
-    sym (rw (one, padded z, priced p, sym (c .before .no-outcome .ensures) ∙ c .if7 .taken))
+    sym (rw (one, padded z, left p, sym (c .before .no-outcome .ensures) ∙ c .if7 .taken))
 
 returns-7 : tie.Need-returns-7
 returns-7 c =
@@ -90,7 +91,7 @@ returns-7 c =
     let p = o .before in
     let z = p .before .before in
     let one = sym (z .before .before .before .before .u8-at .ensures) ∙ o .if6 .taken in
-    sym (rw (one, padded z, priced p, sym (c .before .no-outcome .ensures) ∙ c .if7 .left))
+    sym (rw (one, padded z, left p, sym (c .before .no-outcome .ensures) ∙ c .if7 .left))
 
 is-fixed-requires : tie.Need-is-fixed-requires
 is-fixed-requires c κs = search needs
@@ -102,7 +103,7 @@ returns-8 c =
     let p = o .before in
     let z = p .before .before in
     let l = z .before .before in
-    sym (rw (some-tag (l .before), low-tag l, padded z, priced p, missed 1 (l .before .before .u8-at .ensures) (o .if6 .left), sym (c .before .is-fixed .ensures) ∙ c .if8 .taken))
+    sym (rw (some-tag (l .before), low-tag l, padded z, left p, missed 1 (l .before .before .u8-at .ensures) (o .if6 .left), sym (c .before .is-fixed .ensures) ∙ c .if8 .taken))
 
 returns-9 : tie.Need-returns-9
 returns-9 c =
@@ -110,7 +111,7 @@ returns-9 c =
     let p = o .before in
     let z = p .before .before in
     let l = z .before .before in
-    sym (rw (some-tag (l .before), low-tag l, padded z, priced p, missed 1 (l .before .before .u8-at .ensures) (o .if6 .left), sym (c .before .is-fixed .ensures) ∙ c .if8 .left))
+    sym (rw (some-tag (l .before), low-tag l, padded z, left p, missed 1 (l .before .before .u8-at .ensures) (o .if6 .left), sym (c .before .is-fixed .ensures) ∙ c .if8 .left))
 
 pub status-of-spec : {M : Type 1} → statement M
 status-of-spec =
@@ -123,7 +124,7 @@ status-of-spec =
     returns-3
     u24-at-requires
     returns-4
-    prices-stand-requires
+    holdings-stand-requires
     returns-5
     no-outcome-requires
     returns-6
