@@ -5,28 +5,28 @@ use mathlib.Core.Bool.{Bool, true, false, _&&_}
 use mathlib.Core.Option.{Option, none, some}
 use mathlib.Core.List.{List, _∷_, _++_}
 use native.Mathlib.Omega.{arith}
-use lib.ListN.{length, take, drop, length-take}
-use lib.Seq.{take-at, drop-at}
+use lib.ListN.{length, drop}
 use lib.Dec.{ltb, eqb}
 use borrow.Author.Tests.{ltb-true, le-leb, lt-leb, ne-eqb}
 use Rattle.rules.proofs.Bools.{both, every-more}
 use Rattle.rules.proofs.Bytes.{drop-bytes, take-bytes}
 use Rattle.rules.proofs.Fields.{commandFits}
 use Rattle.rules.proofs.Leaves.{step-leaves}
-use Rattle.rules.proofs.Read.{read-sound, read-fits}
+use Rattle.rules.proofs.Read.{stored-is, read-sound, read-fits}
 use Rattle.rules.specs.Log.{if_then_else_, maybe, every}
 use Rattle.rules.specs.Bytes.{Bytes, areBytes, allZero, unsignedAt}
-use Rattle.rules.specs.Answers.{ok, refused, Refused}
+use Rattle.rules.specs.Answers.{ok, Refused}
 use Rattle.rules.specs.Terms.{termsTests, goodTerms}
 use Rattle.rules.specs.State.{restoreTests, goodState}
 use Rattle.rules.specs.Series.{Command, Series, step, changed, after}
 use Rattle.rules.specs.Brought.{broughtTests, leftByPrints}
-use Rattle.rules.specs.Record.{recordSize, seriesCount, bookSize, bytesOf, goodPrices, openingIn, partsIn, holdingsIn, tagIn, seriesIn, bodyTests, openTests, fixedTests, acceptable, stored}
+use Rattle.rules.specs.Record.{recordSize, seriesCount, bookSize, bytesOf, goodPrices, openingIn, partsIn, holdingsIn, tagIn, bodyTests, openTests, fixedTests, acceptable, stored}
 use Rattle.rules.specs.Entries.{command, entry}
 use Rattle.rules.specs.Book.{recordAt, replaced, answerIn, answerTo, afterIn, bookAfter}
 use Rattle.claims.specs.Brought.{conditionsAnd, conditions, Brought}
 use Rattle.claims.proofs.Entries.{entry-fits}
 use Rattle.claims.proofs.Book.{length-record}
+use Rattle.claims.proofs.Kept.{put-back}
 
 -- ---- the conditions
 
@@ -69,16 +69,6 @@ module _ (bs : Bytes) where
   unfolding acceptable
   above-refused l = rw (ne-eqb (tagIn bs) 0 (omega arith), ne-eqb (tagIn bs) 1 (omega arith), lt-leb (tagIn bs) 3 l)
 
--- ---- a record put into a book
-
-module _ (s : ℕ) (r book : Bytes) (size : length r ≡ recordSize) (fit : s * recordSize + recordSize ≤ length book) where
-  put-back : recordAt s (replaced s r book) ≡ r
-  unfolding recordAt replaced
-  put-back =
-      let ahead : length (take (s * recordSize) book) ≡ s * recordSize = rw (length-take (s * recordSize) book) (omega arith) in
-      let rest = drop (s * recordSize + recordSize) book in
-      rw (drop-at (take (s * recordSize) book) (r ++ rest) (s * recordSize) ahead) (take-at r rest recordSize size)
-
 -- ---- a command on a book
 
 module _ (book : Bytes) (len : length book ≡ bookSize) (e : Bytes) (s : ℕ) (c : Command) (h : entry e ≡ command s c) where
@@ -95,15 +85,6 @@ module _ (book : Bytes) (len : length book ≡ bookSize) (e : Bytes) (s : ℕ) (
   all-refused n = (answer-at ∙ rw n, after-at ∙ rw n)
 
   module _ (ab : areBytes book ≡ true) (are : areBytes e ≡ true) (held : Series) (there : stored (recordAt s book) ≡ ok held) where
-    read : (acceptable (recordAt s book) ≡ true) × (seriesIn (recordAt s book) ≡ held)
-    unfolding stored
-    read = go (acceptable (recordAt s book)) refl there
-      where
-        go : (b : Bool) → acceptable (recordAt s book) ≡ b → (if b then ok (seriesIn (recordAt s book)) else refused 11) ≡ ok held
-            → (acceptable (recordAt s book) ≡ true) × (seriesIn (recordAt s book) ≡ held)
-        go true a e = (a, cc)
-        go false a e = (cc, cc)
-
     bytes : areBytes (recordAt s book) ≡ true
     unfolding recordAt
     bytes = take-bytes recordSize (drop (s * recordSize) book) (drop-bytes (s * recordSize) book ab)
@@ -117,7 +98,7 @@ module _ (book : Bytes) (len : length book ≡ bookSize) (e : Bytes) (s : ℕ) (
             → stored (recordAt s (maybe book (λ next. replaced s (bytesOf next) book) x)) ≡ ok (maybe held (λ next. next) x)
         go l fc none k = there
         go l fc (some next) k =
-            let (a, same) = read in
+            let (a, same) = stored-is (recordAt s book) held there in
             let fits = rw same at (read-fits (recordAt s book) bytes a) in
             let sound = rw same at (read-sound (recordAt s book) a) in
             ap stored (put-back s (bytesOf next) book (length-record next) (omega arith)) ∙ step-leaves held c fits sound fc next k

@@ -6,7 +6,7 @@ use mathlib.Core.Option.{Option, none, some}
 use mathlib.Core.List.{_++_, append-assoc}
 use native.Mathlib.Omega.{arith}
 use lib.ListN.{length, take, drop, length-append, length-take, length-drop, take-append-drop}
-use lib.Seq.{take-append-le, drop-append-le, drop-append-add, drop-drop}
+use lib.Seq.{take-at, take-append-le, drop-append-le, drop-append-add, drop-drop}
 use lib.Dec.{ltb, eqb}
 use lib.Arith.{lt-of-le-ne}
 use borrow.Author.Tests.{ltb-true, ltb-false, eqb-true, eqb-false}
@@ -40,7 +40,7 @@ refusal-keeps book e r h = go (eqb (length book) bookSize) (entry e) h
     go true (noCommand q) h = refl
     go true (command s c) h = held s c (stored (recordAt s book)) h
 
--- ---- another series
+-- ---- a record put into a book: it is there, and the others are as they were
 
 -- a record in the first part
 record-front : (s : ℕ) (front rest : Bytes) → s * recordSize + recordSize ≤ length front → recordAt s (front ++ rest) ≡ recordAt s front
@@ -59,6 +59,12 @@ record-back s n front rest h = rw (h, drop-append-add front rest n)
 module _ (i : ℕ) (r book : Bytes) (size : length r ≡ recordSize) (fit : i * recordSize + recordSize ≤ length book) where
   ahead : length (take (i * recordSize) book) ≡ i * recordSize
   ahead = rw (length-take (i * recordSize) book) (omega arith)
+
+  pub put-back : recordAt i (replaced i r book) ≡ r
+  unfolding replaced
+  put-back =
+      record-back i 0 (take (i * recordSize) book) (r ++ drop (i * recordSize + recordSize) book) (omega (arith, ahead))
+      ∙ take-at r (drop (i * recordSize + recordSize) book) recordSize size
 
   before : (s : ℕ) → s < i → recordAt s (replaced i r book) ≡ recordAt s book
   unfolding replaced

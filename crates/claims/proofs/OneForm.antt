@@ -14,9 +14,10 @@ use Rattle.rules.proofs.State.{parts-kept}
 use Rattle.rules.proofs.Record.{outcome-stands, written-read, order-tag}
 use Rattle.rules.proofs.Bytes.{drop-bytes, all-zero, field-back, word-signed, little-below}
 use Rattle.rules.proofs.SlotPrices.{prices-back}
+use Rattle.rules.proofs.Read.{stored-is}
 use Rattle.rules.specs.Log.{if_then_else_, every}
 use Rattle.rules.specs.Bytes.{Bytes, areBytes, zeros, allZero, concat, unsignedAt, signedAt, bytes, word, signedBytes}
-use Rattle.rules.specs.Answers.{ok, refused, method, Answer}
+use Rattle.rules.specs.Answers.{ok, method, Answer}
 use Rattle.rules.specs.State.{Parts, candidatesOf, partsOf, goodState}
 use Rattle.rules.specs.Series.{Opening, Series, empty, live, fixed, decidedBy}
 use Rattle.rules.specs.Record.{recordSize, slotPricesAt, methodOf, samplesOf, priceOf, fields, tagOf, priceBytes, bytesOf, outcome, openingIn, partsIn, pricesIn, holdingsIn, tagIn, samplesIn, methodIn, fixingTimeIn, priceIn, orderIn, seriesIn, bodyTests, openTests, fixedTests, acceptable, stored}
@@ -168,15 +169,10 @@ module _ (bs : Bytes) (len : length bs ≡ recordSize) (are : areBytes bs ≡ tr
 -- ---- the claim
 
 read-back : (bs : Bytes) → isRecord bs ≡ true → (s : Series) → stored bs ≡ ok s → bytesOf s ≡ bs
-unfolding stored
-read-back bs r s e = go (acceptable bs) refl e
-  where
-    go : (b : Bool) → acceptable bs ≡ b → (if b then ok (seriesIn bs) else refused 11) ≡ ok s → bytesOf s ≡ bs
-    go true h e =
-        let (l, are) = both (eqb (length bs) recordSize) (areBytes bs) r in
-        let same : seriesIn bs ≡ s = cc in
-        ap bytesOf (sym same) ∙ acceptable-back bs (eqb-true (length bs) recordSize l) are h
-    go false h e = cc
+read-back bs r s e =
+    let (l, are) = both (eqb (length bs) recordSize) (areBytes bs) r in
+    let (h, same) = stored-is bs s e in
+    ap bytesOf (sym same) ∙ acceptable-back bs (eqb-true (length bs) recordSize l) are h
 
 pub one-form : OneForm
 one-form =

@@ -1,20 +1,15 @@
 -- `restore`'s test: the links' five places, tested one by one, and the tests in the code's order.
-use Prim.Native.Nat.{ℕ, zero, suc, _+_, _-_, _/_, _≤_, _<_, _^_}
+use Prim.Native.Nat.{ℕ, zero, suc, _+_, _-_, _≤_, _<_, _^_}
 use mathlib.Core.Path.{_≡_, refl, sym, ap, _∙_}
 use mathlib.Core.Bool.{Bool, true, false, not, _||_, Bool·beq}
 use native.Mathlib.Omega.{arith}
-use native.Mathlib.Nat.{le-div-iff-mul-le, div-eq-of-lt}
 use native.Mathlib.Numerals.{add-one}
-use borrow.Author.Tests.{not-true, not-false, ltb-true, ltb-false, lt-ltb, eqb-true, eqb-false, eq-eqb, ne-eqb, lt-leb}
+use borrow.Author.Tests.{not-true, not-false, ltb-true, lt-ltb, eqb-true, eqb-false, ne-eqb}
 use lib.Arith.{lt-of-le-ne}
-use lib.Pow.{pow-pos}
 use lib.Dec.{ltb, leb, eqb}
 use lib.ListN.{getD, length, List·getD-eq-default}
-use lib.IntN.{ℤ, pos, negsuc}
+use lib.IntN.{pos}
 use lib.Signed.{ltZ}
-use mir.Syntax.{w64}
-use mir.Val.{SFits, ofZ}
-use Rattle.numbers.proofs.Ranges.{in-64}
 use Rattle.rules.specs.Log.{front, all}
 use Rattle.rules.specs.Terms.{Terms, slots}
 use Rattle.rules.specs.Prints.{eqZ}
@@ -32,20 +27,6 @@ passed {r} e h = sym e ∙ not-false r h
 
 pub failed : {r a : Bool} → r ≡ a → not r ≡ true → a ≡ false
 failed {r} e h = sym e ∙ not-true r h
-
--- an i64 is zero as its bits are
-pub zero-64 : (z : ℤ) → SFits w64 z → eqb (ofZ w64 z) 0 ≡ eqZ z (pos 0)
-zero-64 (pos zero) h = refl
-zero-64 (pos (suc n)) h = ne-eqb (suc n) 0 (omega arith) ∙ sym (rw (lt-leb (suc n) 0 (omega arith)))
-zero-64 (negsuc n) h = ne-eqb (ofZ w64 (negsuc n)) 0 (λ e. omega (arith, in-64 (negsuc n) h))
-
--- nothing is left of n above digit k
-pub none-above : (n k : ℕ) → eqb (n / 2 ^ k) 0 ≡ ltb n (2 ^ k)
-none-above n k = go (ltb n (2 ^ k)) refl
-  where
-    go : (b : Bool) → ltb n (2 ^ k) ≡ b → eqb (n / 2 ^ k) 0 ≡ b
-    go true e = eq-eqb (n / 2 ^ k) 0 (div-eq-of-lt (ltb-true n (2 ^ k) e))
-    go false e = ne-eqb (n / 2 ^ k) 0 (λ z. omega (arith, le-div-iff-mul-le {x = 1} {y = n} (pow-pos k) .1 (omega (arith, ltb-false n (2 ^ k) e))))
 
 pub beq-true : (b : Bool) → Bool·beq true b ≡ b
 beq-true true = refl

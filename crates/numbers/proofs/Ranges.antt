@@ -1,14 +1,15 @@
 -- Machine ranges of whole numbers, for omega.
-use Prim.Native.Nat.{_+_, _≤_, _<_, _^_}
-use mathlib.Core.Path.{_≡_}
+use Prim.Native.Nat.{zero, suc, _+_, _≤_, _<_, _^_}
+use mathlib.Core.Path.{_≡_, refl, sym, _∙_}
 use mathlib.Core.Bool.{true, false}
 use native.Mathlib.Omega.{arith}
 use lib.IntN.{ℤ, pos, negsuc, natAbs}
 use lib.Signed.{mag, nonNeg}
-use lib.Dec.{T, ltb}
-use borrow.Author.Tests.{lt-ltb, le-ltb}
+use lib.Dec.{T, ltb, eqb}
+use borrow.Author.Tests.{lt-ltb, le-ltb, lt-leb, ne-eqb}
 use mir.Syntax.{Width, w64}
-use mir.Val.{Fits, SFits, bits, hbits}
+use mir.Val.{Fits, SFits, ofZ, bits, hbits}
+use Rattle.rules.specs.Prints.{eqZ}
 use Rattle.rules.proofs.Integers.{up, dn}
 
 -- a range, without the two's being apart: -2 ^ (w - 1) ≤ z < 2 ^ (w - 1)
@@ -56,3 +57,9 @@ cast-in w (negsuc n) h k = absurd (omega arith)
 
 pub cast-64 : (z : ℤ) → dn z ≤ up z → up z < 2 ^ 64 → T (nonNeg z) × Fits w64 (natAbs z)
 cast-64 z h k = cast-in w64 z h k
+
+-- an i64 is zero as its bits are
+pub zero-64 : (z : ℤ) → SFits w64 z → eqb (ofZ w64 z) 0 ≡ eqZ z (pos 0)
+zero-64 (pos zero) h = refl
+zero-64 (pos (suc n)) h = ne-eqb (suc n) 0 (omega arith) ∙ sym (rw (lt-leb (suc n) 0 (omega arith)))
+zero-64 (negsuc n) h = ne-eqb (ofZ w64 (negsuc n)) 0 (λ e. omega (arith, in-64 (negsuc n) h))

@@ -1,22 +1,22 @@
 -- The tests of what prints leave, as the code makes them.
-use Prim.Native.Nat.{ℕ, zero, suc, _+_, _*_, _-_, _^_, _<_}
+use Prim.Native.Nat.{ℕ, _+_, _*_, _-_, _^_, _<_}
 use mathlib.Core.Path.{_≡_, refl, sym, ap, _∙_, fun-ext}
 use mathlib.Core.Bool.{Bool, true, false, not, _&&_, _||_}
 use mathlib.Core.List.{List, [], _∷_}
 use native.Mathlib.Omega.{arith}
 use lib.ListN.{length, getD}
-use lib.IntN.{ℤ, pos, negsuc, _+ℤ_, _-ℤ_}
+use lib.IntN.{ℤ, pos, _+ℤ_, _-ℤ_}
 use lib.Signed.{ltZ, leZ}
-use lib.Dec.{ltb, leb, eqb}
-use borrow.Author.Tests.{ltb-true, ltb-false, leb-true, leb-false, lt-leb, ne-eqb, eqb-true, eqb-false}
+use lib.Dec.{leb, eqb}
+use borrow.Author.Tests.{ltb-true, leb-true, leb-false, ne-eqb}
 use Rattle.rules.proofs.Bools.{both, not-both, and-true, and-false, or-true, every-at}
 use Rattle.rules.proofs.Integers.{up, dn, sum-law, difference-law, lt-yes, no-lt, le-yes, yes-le, no-le, lt-true}
 use Rattle.rules.proofs.Logs.{size-front, front-no}
 use Rattle.rules.proofs.Sums.{all<-yes}
 use Rattle.rules.proofs.Brought.{times-follow}
-use Rattle.rules.proofs.Read.{opening-fits, bits-fit}
-use Rattle.rules.specs.Log.{if_then_else_, all, all<, front, every}
-use Rattle.rules.specs.Bytes.{Bytes, areBytes, signed, unsignedAt, signedAt}
+use Rattle.rules.proofs.Read.{five-from, opening-fits, bits-fit}
+use Rattle.rules.specs.Log.{all, all<, front, every}
+use Rattle.rules.specs.Bytes.{Bytes, areBytes, unsignedAt, signedAt}
 use Rattle.rules.specs.Prints.{eqZ}
 use Rattle.rules.specs.Taking.{bit}
 use Rattle.rules.specs.State.{candidatesOf}
@@ -45,10 +45,10 @@ module _ (E : ℤ) (w n : ℕ) where
       go false q = no-le (pos 2) (E -ℤ pos w +ℤ pos n) (omega (arith, leb-false m n q, gap, sum-law (E -ℤ pos w) (pos n), difference-law E (pos w)))
 
 module _ (bs : Bytes) where
-  abbrev pub o : Opening
+  abbrev o : Opening
   o = openingIn bs
 
-  abbrev pub h : Holdings
+  abbrev h : Holdings
   h = holdingsIn bs
 
   pub slots-late : G.Behind ≡ gapOf (signedAt bs 40 8) (pos (2 + unsignedAt bs 12 4)) → slotsAfter (openingIn bs) (holdingsIn bs) ≡ true
@@ -66,43 +66,21 @@ module _ (bs : Bytes) where
 
   -- ---- the links
 
-  zero-time : (i : ℕ) → eqZ (signedAt bs i 8) (pos 0) ≡ eqb (unsignedAt bs i 8) 0
-  unfolding signedAt signed
-  zero-time i = go (unsignedAt bs i 8) (ltb (unsignedAt bs i 8) (2 ^ 63)) refl
-    where
-      plain : (n : ℕ) (b : Bool) → eqb n 0 ≡ b → eqZ (pos n) (pos 0) ≡ eqb n 0
-      plain n true e = rw (eqb-true n 0 e)
-      plain n false e = let d = eqb-false n 0 e in rw (e, lt-leb n 0 (omega arith))
-
-      go : (n : ℕ) (b : Bool) → ltb n (2 ^ 63) ≡ b → eqZ (if b then pos n else negsuc (2 ^ 64 - 1 - n)) (pos 0) ≡ eqb n 0
-      go n true e = plain n (eqb n 0) refl
-      go n false e = sym (ne-eqb n 0 (λ z. omega (arith, ltb-false n (2 ^ 63) e)))
-
   pub link-time-at : (i : ℕ) → i < 5 → getD (partsIn bs .times) i (pos 0) ≡ signedAt bs (64 + 8 * i) 8
   unfolding partsIn
-  link-time-at zero l = refl
-  link-time-at (suc zero) l = refl
-  link-time-at (suc (suc zero)) l = refl
-  link-time-at (suc (suc (suc zero))) l = refl
-  link-time-at (suc (suc (suc (suc zero)))) l = refl
-  link-time-at (suc (suc (suc (suc (suc i))))) l = absurd (omega arith)
+  link-time-at i l = five-from (λ j. signedAt bs j 8) 64 (pos 0) i l
 
   pub link-price-at : (i : ℕ) → i < 5 → getD (partsIn bs .prices) i 0 ≡ unsignedAt bs (104 + 8 * i) 8
   unfolding partsIn
-  link-price-at zero l = refl
-  link-price-at (suc zero) l = refl
-  link-price-at (suc (suc zero)) l = refl
-  link-price-at (suc (suc (suc zero))) l = refl
-  link-price-at (suc (suc (suc (suc zero)))) l = refl
-  link-price-at (suc (suc (suc (suc (suc i))))) l = absurd (omega arith)
+  link-price-at i l = five-from (λ j. unsignedAt bs j 8) 104 0 i l
 
   none-is : noLink (holdingsIn bs) ≡ eqb (unsignedAt bs 3 1) 0
   unfolding candidatesOf partsIn
   none-is = ap (λ (n : ℕ). eqb n 0) (size-front (pos 0) (unsignedAt bs 3 1) (partsIn bs .times))
 
-  pub no-links : unsignedAt bs 3 1 ≡ 0 → eqb (unsignedAt bs 168 8) 0 ≡ every (linkTests bs)
+  pub no-links : unsignedAt bs 3 1 ≡ 0 → eqZ (signedAt bs 168 8) (pos 0) ≡ every (linkTests bs)
   unfolding candidatesOf partsIn front
-  no-links e = sym (rw e (and-true (eqZ (signedAt bs 168 8) (pos 0)) ∙ zero-time 168))
+  no-links e = sym (rw e (and-true (eqZ (signedAt bs 168 8) (pos 0))))
 
   module _ (some : unsignedAt bs 3 1 ≡ 0 → ⊥) where
     pub links-early : leZ (pos 1) (signedAt bs 40 8) ≡ false → every (linkTests bs) ≡ false
@@ -123,9 +101,9 @@ module _ (bs : Bytes) where
 
   -- ---- the fallback
 
-  pub no-fallback : unsignedAt bs 152 8 ≡ 0 → eqb (unsignedAt bs 176 8) 0 ≡ every (fallbackTests bs)
+  pub no-fallback : unsignedAt bs 152 8 ≡ 0 → eqZ (signedAt bs 176 8) (pos 0) ≡ every (fallbackTests bs)
   unfolding candidatesOf partsIn
-  no-fallback e = sym (rw e (and-true (eqZ (signedAt bs 176 8) (pos 0)) ∙ zero-time 176))
+  no-fallback e = sym (rw e (and-true (eqZ (signedAt bs 176 8) (pos 0))))
 
   pub fallback-high : lowPrice (unsignedAt bs 152 8) ≡ false → every (fallbackTests bs) ≡ false
   unfolding candidatesOf partsIn

@@ -77,7 +77,7 @@ fn links_stand(bytes: &[u8]) -> bool
 {
     let links = u8_at(bytes, 3);
     if links == 0 {
-        return u64_at(bytes, 168) == 0;
+        return i64_at(bytes, 168) == 0;
     }
     if i64_at(bytes, 40) < 1 {
         return false;
@@ -96,7 +96,7 @@ fn fallback_stands(bytes: &[u8]) -> bool
 {
     let price = u64_at(bytes, 152);
     if price == 0 {
-        return u64_at(bytes, 176) == 0;
+        return i64_at(bytes, 176) == 0;
     }
     if PRICE_LIMIT <= price {
         return false;

@@ -1,4 +1,4 @@
--- The test of the slot prices, one slot after the other from the last one down.
+-- The test of the slot prices, one slot after the other and then by pairs, from the last down.
 use Prim.Native.Nat.{ℕ, suc, _+_, _*_, _-_, _/_, _%_, _^_, _≤_, _<_}
 use mathlib.Core.Path.{_≡_, refl, sym, ap, _∙_}
 use mathlib.Core.Bool.{Bool, true, false, _&&_, Bool·beq}

@@ -3,12 +3,13 @@ use Prim.Native.Nat.{ℕ, zero, suc, _+_, _*_, _-_, _/_, _%_, _≤_, _<_, _^_}
 use mathlib.Core.Path.{_≡_, refl, sym, ap, _∙_, subst}
 use mathlib.Core.Bool.{Bool, true, false}
 use native.Mathlib.Omega.{arith}
-use native.Mathlib.Nat.{div-add-mod', mod-lt, add-div-right, add-mul-div-right, add-mul-mod-self-right, lt-mul-div-succ, one-mul, mul-comm, add-mul, mul-le-mul-right, zero-div}
+use native.Mathlib.Nat.{div-add-mod', mod-lt, add-div-right, add-mul-div-right, add-mul-mod-self-right, lt-mul-div-succ, one-mul, mul-comm, add-mul, mul-le-mul-right, zero-div, div-eq-of-lt, le-div-iff-mul-le, lt-of-lt-of-le}
 use lib.Arith.{lt-of-le-ne}
-use lib.Pow.{pow-pos, pow-add, shr-lt, shr-shr}
+use lib.Pow.{pow-pos, pow-add, pow-mono, shr-lt, shr-shr}
 use lib.Dec.{ltb, eqb}
-use borrow.Author.Tests.{ltb-true, ltb-false, eq-eqb, eqb-false}
+use borrow.Author.Tests.{ltb-true, ltb-false, eq-eqb, ne-eqb, eqb-false}
 use Rattle.rules.specs.Taking.{bit}
+use Rattle.rules.proofs.Bools.{not-both}
 use Rattle.rules.proofs.Sums.{shift}
 
 -- what is not odd is even
@@ -78,6 +79,26 @@ module _ (n i : ℕ) (clear : bit i n ≡ false) where
           let l : i < j = lt-of-le-ne (ltb-false j i e) (λ q. ne (sym q)) in
           let m : i + (1 + (j - i - 1)) ≡ j = omega arith in
           subst (λ (x : ℕ). eqb ((n + 2 ^ i) / 2 ^ x % 2) 1 ≡ eqb (n / 2 ^ x % 2) 1) m (ap (λ (x : ℕ). eqb (x % 2) 1) (put-higher (j - i - 1)))
+
+-- nothing is left of n above digit k
+pub none-above : (n k : ℕ) → eqb (n / 2 ^ k) 0 ≡ ltb n (2 ^ k)
+none-above n k = go (ltb n (2 ^ k)) refl
+  where
+    go : (b : Bool) → ltb n (2 ^ k) ≡ b → eqb (n / 2 ^ k) 0 ≡ b
+    go true e = eq-eqb (n / 2 ^ k) 0 (div-eq-of-lt (ltb-true n (2 ^ k) e))
+    go false e = ne-eqb (n / 2 ^ k) 0 (λ z. omega (arith, le-div-iff-mul-le {x = 1} {y = n} (pow-pos k) .1 (omega (arith, ltb-false n (2 ^ k) e))))
+
+-- so no bit is set from there on, and where one is, the number is as large
+pub bit-above : (n i j : ℕ) → n < 2 ^ i → i ≤ j → bit j n ≡ false
+unfolding bit
+bit-above n i j h l = rw (div-eq-of-lt (lt-of-lt-of-le h (pow-mono l)))
+
+pub bit-within : (n i : ℕ) → bit i n ≡ true → 2 ^ i ≤ n
+bit-within n i e = go (ltb n (2 ^ i)) refl
+  where
+    go : (b : Bool) → ltb n (2 ^ i) ≡ b → 2 ^ i ≤ n
+    go true q = absurd (not-both e (bit-above n i i (ltb-true n (2 ^ i) q) (omega arith)))
+    go false q = ltb-false n (2 ^ i) q
 
 -- 0 has no bit, and a number with none is 0
 pub bit-of-0 : (i : ℕ) → bit i 0 ≡ false

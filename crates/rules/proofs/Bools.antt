@@ -1,12 +1,12 @@
 -- Facts about Boolean tests and choices.
 use Prim.Native.Nat.{ℕ, zero, suc, _+_, _^_}
-use mathlib.Core.Path.{_≡_, refl, sym, ap, _∙_}
+use mathlib.Core.Path.{_≡_, refl, sym, ap, ap₂, _∙_}
 use mathlib.Core.Bool.{Bool, true, false, not, _&&_, _||_, Bool·beq}
 use mathlib.Core.List.{List, [], _∷_, _++_}
 use native.Mathlib.Omega.{arith}
 use lib.Dec.{ltb, eqb}
 use lib.Bits.{bitAnd, bitOr, or-lt, or-add-and, and-le-l, and-le-r}
-use borrow.Author.Tests.{ltb-true, ltb-false, lt-ltb, le-ltb, eq-eqb, ne-eqb, eqb-true, eqb-false}
+use borrow.Author.Tests.{ltb-true, ltb-false, lt-ltb, le-ltb, eqb-true, eqb-false}
 use Rattle.rules.specs.Log.{if_then_else_, every}
 
 pub both : (a b : Bool) → a && b ≡ true → (a ≡ true) × (b ≡ true)
@@ -74,22 +74,7 @@ pub either : {A : Type 0} (a b : Bool) (x y : A) → (if a || b then x else y) �
 either true b x y = refl
 either false b x y = refl
 
--- two words are zero as their bits together are
-pub either-zero : (a b : ℕ) → eqb (bitOr a b) 0 ≡ eqb a 0 && eqb b 0
-either-zero a b = go (eqb a 0) (eqb b 0) refl refl
-  where
-    sums : bitOr a b + bitAnd a b ≡ a + b
-    sums = or-add-and a b
-
-    go : (x y : Bool) → eqb a 0 ≡ x → eqb b 0 ≡ y → eqb (bitOr a b) 0 ≡ x && y
-    go true true p q =
-        let e = eqb-true a 0 p in
-        let f = eqb-true b 0 q in
-        eq-eqb (bitOr a b) 0 (omega (arith, sums))
-    go true false p q = let f = eqb-false b 0 q in ne-eqb (bitOr a b) 0 (λ z. f (omega (arith, sums, and-le-l a b)))
-    go false y p q = let e = eqb-false a 0 p in ne-eqb (bitOr a b) 0 (λ z. e (omega (arith, sums, and-le-r a b)))
-
--- and below a power of 2
+-- two words are below a power of 2 as their bits together are
 pub either-below : (k a b : ℕ) → ltb (bitOr a b) (2 ^ k) ≡ ltb a (2 ^ k) && ltb b (2 ^ k)
 either-below k a b = go (ltb a (2 ^ k)) (ltb b (2 ^ k)) refl refl
   where
@@ -100,3 +85,11 @@ either-below k a b = go (ltb a (2 ^ k)) (ltb b (2 ^ k)) refl refl
     go true true p q = lt-ltb (bitOr a b) (2 ^ k) (or-lt k a b (ltb-true a (2 ^ k) p) (ltb-true b (2 ^ k) q))
     go true false p q = le-ltb (bitOr a b) (2 ^ k) (omega (arith, sums, ltb-false b (2 ^ k) q, and-le-l a b))
     go false y p q = le-ltb (bitOr a b) (2 ^ k) (omega (arith, sums, ltb-false a (2 ^ k) p, and-le-r a b))
+
+-- and zero, which is below 1
+pub either-zero : (a b : ℕ) → eqb (bitOr a b) 0 ≡ eqb a 0 && eqb b 0
+either-zero a b = zero-below (bitOr a b) (eqb (bitOr a b) 0) refl ∙ either-below 0 a b ∙ sym (ap₂ _&&_ (zero-below a (eqb a 0) refl) (zero-below b (eqb b 0) refl))
+  where
+    zero-below : (n : ℕ) (x : Bool) → eqb n 0 ≡ x → eqb n 0 ≡ ltb n (2 ^ 0)
+    zero-below n true e = rw (eqb-true n 0 e)
+    zero-below n false e = let d = eqb-false n 0 e in e ∙ sym (le-ltb n 1 (omega arith))

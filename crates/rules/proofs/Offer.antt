@@ -30,7 +30,7 @@ use Rattle.rules.specs.Prints.{Print, goodPrint, eqZ}
 use Rattle.rules.specs.Taking.{Candidates, bit, boundary, canonicalTests, canonical, links, follows, qualifies, slotFor, isLink, isFallback, timesFit, sumFits, place}
 use Rattle.rules.specs.State.{partsOf, rising, goodState}
 use Rattle.rules.specs.Series.{Opening, Holdings, slotPlaces, live, offerHeld}
-use Rattle.rules.specs.Brought.{lowPrice, noLink, noFallback, lowSlots, linksAfter, slotAfter, slotsAfter, fallbackTimeTests, broughtTests, leftByPrints}
+use Rattle.rules.specs.Brought.{lowPrice, lowSlots, lowLinks, lowFallback, linkUnchanged, fallbackUnchanged, linksAfter, linkExpiry, slotAfter, slotsAfter, fallbackTimeTests, fallbackWithin, broughtTests, leftByPrints}
 use Rattle.rules.specs.Record.{goodPrices, candidatesFields, candidatesFit, pricesFit, seriesFits}
 
 choose : (P : Bool → Type 0) (b : Bool) → (b ≡ true → P true) → P false → P b
@@ -206,7 +206,7 @@ module _ (o : Opening) (h : Holdings) (f : seriesFits (live o h) ≡ true) (k : 
   unfolding place
   links-after = link-case (λ b. all (ltZ E) (if b then c .times ▹ p .published else c .times) ≡ true) (λ _ k. after-more o (c .times) p (left 0) k) (left 0)
 
-  link-expiry : noLink there || leZ (pos 1) E ≡ true
+  link-expiry : linkExpiry o there ≡ true
   unfolding place
   link-expiry =
       link-case (λ b. eqb (size (if b then c .times ▹ p .published else c .times)) 0 || leZ (pos 1) E ≡ true)
@@ -216,11 +216,11 @@ module _ (o : Opening) (h : Holdings) (f : seriesFits (live o h) ≡ true) (k : 
       first ε k e = at-least-1 (p .prev) E (good-positive p gp .2) (both (leZ (p .prev) E) (ltZ E (p .published)) k .0)
       first (ts ▹ l) k e = rw (ne-eqb (suc (size ts)) 0 (omega arith)) at e
 
-  link-low : all (lowPrice) (next .prices) ≡ true
+  links-low : lowLinks there ≡ true
   unfolding place
-  link-low = link-case (λ b. all lowPrice (if b then c .prices ▹ p .price else c .prices) ≡ true) (λ _ _. rw (left 5, low)) (left 5)
+  links-low = link-case (λ b. all lowPrice (if b then c .prices ▹ p .price else c .prices) ≡ true) (λ _ _. rw (left 5, low)) (left 5)
 
-  link-unchanged : not (noLink there) || eqZ (next .linkChanged) (pos 0) ≡ true
+  link-unchanged : linkUnchanged there ≡ true
   unfolding place
   link-unchanged =
       link-case (λ b. not (eqb (size (if b then c .times ▹ p .published else c .times)) 0) || eqZ (if b then now else c .linkChanged) (pos 0) ≡ true)
@@ -231,7 +231,7 @@ module _ (o : Opening) (h : Holdings) (f : seriesFits (live o h) ≡ true) (k : 
   fallback-case : (P : Bool → Type 0) → P true → P false → P (isFallback t E c p)
   fallback-case P y n = choose P (isFallback t E c p) (λ _. y) n
 
-  fallback-within : noFallback there || every (fallbackTimeTests o (next .fallbackTime)) ≡ true
+  fallback-within : fallbackWithin o there ≡ true
   unfolding place qualifies
   fallback-within =
       choose (λ b. eqb (if b then p .price else c .fallbackPrice) 0 || every (fallbackTimeTests o (if b then p .published else c .fallbackTime)) ≡ true) (isFallback t E c p)
@@ -242,11 +242,11 @@ module _ (o : Opening) (h : Holdings) (f : seriesFits (live o h) ≡ true) (k : 
       rw (a, b, at-least-2 (p .prev) (p .published) (good-positive p gp .2) l) (or-true (eqb (p .price) 0)))
       (left 3)
 
-  fallback-low : lowPrice (next .fallbackPrice) ≡ true
+  fallback-low : lowFallback there ≡ true
   unfolding place
   fallback-low = fallback-case (λ b. lowPrice (if b then p .price else c .fallbackPrice) ≡ true) low (left 6)
 
-  fallback-unchanged : not (noFallback there) || eqZ (next .fallbackChanged) (pos 0) ≡ true
+  fallback-unchanged : fallbackUnchanged there ≡ true
   unfolding place
   fallback-unchanged =
       fallback-case (λ b. not (eqb (if b then p .price else c .fallbackPrice) 0) || eqZ (if b then now else c .fallbackChanged) (pos 0) ≡ true)
@@ -303,7 +303,7 @@ module _ (o : Opening) (h : Holdings) (f : seriesFits (live o h) ≡ true) (k : 
 
   left-still : leftByPrints o there ≡ true
   unfolding leftByPrints
-  left-still = rw (links-after, link-expiry, slots-after, fallback-within, slots-low, link-low, fallback-low, link-unchanged, fallback-unchanged, tf)
+  left-still = rw (links-after, link-expiry, slots-after, fallback-within, slots-low, links-low, fallback-low, link-unchanged, fallback-unchanged, tf)
 
   pub placed-fits : seriesFits (live o there) ≡ true
   placed-fits = rw (opening-fits o h f k, candidates-still, prices-still)

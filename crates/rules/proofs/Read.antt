@@ -1,14 +1,14 @@
 -- What is read from bytes fits its fields, and what is read from an acceptable record is sound.
 use Prim.Native.Nat.{ℕ, zero, suc, _+_, _*_, _/_, _^_, _<_}
-use mathlib.Core.Path.{_≡_, refl}
+use mathlib.Core.Path.{_≡_, refl, ap}
 use mathlib.Core.Bool.{Bool, true, false, _&&_}
 use native.Mathlib.Omega.{arith}
 use native.Mathlib.Nat.{div-lt-iff-lt-mul}
-use lib.ListN.{getD}
+use lib.ListN.{getD, List·getD-eq-default}
 use lib.IntN.{pos}
 use lib.Pow.{high}
-use lib.Dec.{leb, eqb, lit<}
-use borrow.Author.Tests.{ltb-true, lt-ltb, leb-true, le-leb, eq-eqb}
+use lib.Dec.{ltb, leb, eqb, lit<}
+use borrow.Author.Tests.{ltb-true, ltb-false, lt-ltb, leb-true, le-leb, eq-eqb}
 use Rattle.rules.proofs.Bools.{both, every-at}
 use Rattle.rules.proofs.Logs.{size-front, front-all}
 use Rattle.rules.proofs.Sums.{all<-yes}
@@ -20,11 +20,29 @@ use Rattle.rules.proofs.Acceptable.{soundTests, sound}
 use Rattle.rules.proofs.Record.{outcome-stands}
 use Rattle.rules.specs.Log.{if_then_else_, all, front, every}
 use Rattle.rules.specs.Bytes.{Bytes, areBytes, allZero, unsignedAt, signedAt, fitsUnsigned, fits}
-use Rattle.rules.specs.Answers.{method}
+use Rattle.rules.specs.Answers.{ok, refused, method}
 use Rattle.rules.specs.Terms.{goodTerms, termsTests}
 use Rattle.rules.specs.State.{candidatesOf, restoreTests, goodState}
 use Rattle.rules.specs.Series.{slotPlaces, Series, empty, live, fixed}
-use Rattle.rules.specs.Record.{slotPricesAt, fiveFrom, outcome, openingIn, partsIn, pricesIn, holdingsIn, tagIn, samplesIn, methodIn, fixingTimeIn, priceIn, orderIn, seriesIn, bodyTests, openTests, fixedTests, acceptable, openingFits, candidatesFit, pricesFit, seriesFits}
+use Rattle.rules.specs.Record.{slotPricesAt, fiveFrom, outcome, openingIn, partsIn, pricesIn, holdingsIn, tagIn, samplesIn, methodIn, fixingTimeIn, priceIn, orderIn, seriesIn, bodyTests, openTests, fixedTests, acceptable, stored, openingFits, candidatesFit, pricesFit, seriesFits}
+
+-- ---- five places, eight bytes apart
+
+pub five-from : {A : Type 0} (g : ℕ → A) (i : ℕ) (d : A) (j : ℕ) → j < 5 → getD (fiveFrom g i) j d ≡ g (i + 8 * j)
+five-from g i d zero l = ap g (omega arith)
+five-from g i d (suc zero) l = refl
+five-from g i d (suc (suc zero)) l = refl
+five-from g i d (suc (suc (suc zero))) l = refl
+five-from g i d (suc (suc (suc (suc zero)))) l = refl
+five-from g i d (suc (suc (suc (suc (suc j))))) l = absurd (omega arith)
+
+-- what holds of each holds of the first so many, and of the default behind them
+five-all : {A : Type 0} (Q : A → Bool) (d : A) (g : ℕ → A) (i : ℕ) → Q d ≡ true → ((j : ℕ) → Q (g j) ≡ true) → (n : ℕ) → Q (getD (fiveFrom g i) n d) ≡ true
+five-all Q d g i z h n = go (ltb n 5) refl
+  where
+    go : (b : Bool) → ltb n 5 ≡ b → Q (getD (fiveFrom g i) n d) ≡ true
+    go true e = rw (five-from g i d n (ltb-true n 5 e)) (h (i + 8 * n))
+    go false e = rw (List·getD-eq-default (fiveFrom g i) d (ltb-false n 5 e)) z
 
 -- ---- the fields
 
@@ -67,15 +85,7 @@ module _ (bs : Bytes) (are : areBytes bs ≡ true) where
       rw (eq-eqb _ _ (prices-are bs))
       (all<-yes slotPlaces (λ i. fitsUnsigned 8 (getD (pricesIn bs) i 0)) (λ i l. rw (price-at bs i l) (u (slotPricesAt + 8 * i) 8)))
 
-  -- ---- the links: what holds of five places holds of the first so many
-
-  five-all : {A : Type 0} (Q : A → Bool) (d : A) (g : ℕ → A) (i : ℕ) → Q d ≡ true → ((j : ℕ) → Q (g j) ≡ true) → (n : ℕ) → Q (getD (fiveFrom g i) n d) ≡ true
-  five-all Q d g i z h zero = h i
-  five-all Q d g i z h (suc zero) = h (i + 8)
-  five-all Q d g i z h (suc (suc zero)) = h (i + 16)
-  five-all Q d g i z h (suc (suc (suc zero))) = h (i + 24)
-  five-all Q d g i z h (suc (suc (suc (suc zero)))) = h (i + 32)
-  five-all Q d g i z h (suc (suc (suc (suc (suc n))))) = z
+  -- ---- the links
 
   times-fit : all fits (front (pos 0) (partsIn bs .links) (partsIn bs .times)) ≡ true
   unfolding partsIn
@@ -111,6 +121,14 @@ module _ (bs : Bytes) (are : areBytes bs ≡ true) where
 -- ---- an acceptable record
 
 module _ (bs : Bytes) where
+  pub stored-is : (s : Series) → stored bs ≡ ok s → (acceptable bs ≡ true) × (seriesIn bs ≡ s)
+  unfolding stored
+  stored-is s e = go (acceptable bs) refl e
+    where
+      go : (b : Bool) → acceptable bs ≡ b → (if b then ok (seriesIn bs) else refused 11) ≡ ok s → (acceptable bs ≡ true) × (seriesIn bs ≡ s)
+      go true a e = (a, cc)
+      go false a e = (cc, cc)
+
   abbrev fixedIn : Series
   fixedIn = fixed (orderIn bs) (openingIn bs) (holdingsIn bs) (outcome (method (methodIn bs)) (priceIn bs) (samplesIn bs)) (fixingTimeIn bs)
 

@@ -1,20 +1,20 @@
--- What a withdraw is answered, that the bit which it takes away is there (the price is: Sound), and that it leaves an acceptable record.
+-- What a withdraw is answered, and that it leaves an acceptable record. That what it takes away is there: the bit by Bits, the price by Sound.
 use Prim.Native.Nat.{ℕ, _+_, _-_, _/_, _%_, _^_, _<_, _≤_}
 use mathlib.Core.Path.{_≡_, refl, sym, ap, _∙_}
 use mathlib.Core.Bool.{Bool, true, false, not, _||_, Bool·beq}
 use mathlib.Core.List.{List, [], _∷_}
 use native.Mathlib.Omega.{arith}
-use native.Mathlib.Nat.{div-eq-of-lt, add-div-right}
+use native.Mathlib.Nat.{add-div-right}
 use lib.IntN.{ℤ, pos}
 use lib.Signed.{leZ}
 use lib.ListN.{getD, set}
 use lib.Seq.{getD-set-same, getD-set-other}
 use lib.Pow.{pow-pos}
 use lib.Dec.{ltb, eqb}
-use borrow.Author.Tests.{ltb-true, ltb-false, lt-ltb, le-leb, lt-leb, eq-eqb, ne-eqb, eqb-true, eqb-false}
+use borrow.Author.Tests.{ltb-true, lt-ltb, le-leb, lt-leb, eq-eqb, ne-eqb, eqb-true, eqb-false}
 use Rattle.rules.proofs.Bools.{test, every-at}
 use Rattle.rules.proofs.Sums.{Σ<-one, all<-yes}
-use Rattle.rules.proofs.Bits.{put-other}
+use Rattle.rules.proofs.Bits.{put-other, bit-within}
 use Rattle.rules.proofs.State.{fit-at, stateTests, state-tests}
 use Rattle.rules.proofs.Acceptable.{sound}
 use Rattle.rules.proofs.Sound.{opening-fits, candidates-fit, prices-fit, terms-good, state-at, bits-below, prices-good, left-at, slot-after, slot-low, set-all, prices-length, set-fits, total-is, slot-is, zero-both}
@@ -51,19 +51,6 @@ module _ (o : Opening) (h : Holdings) (now : ℤ) (i : ℕ) where
   pub print-freed : i < slots (o .terms) → bit i (h .candidates .bits) ≡ true → step (live o h) (Withdraw now i) ≡ leaves Done (live o (withdrawn h now i))
   unfolding step
   print-freed l e = rw (lt-leb (slots (o .terms)) i l, e)
-
--- ---- what is there
-
-pub bit-within : (bits i : ℕ) → bit i bits ≡ true → 2 ^ i ≤ bits
-unfolding bit
-bit-within bits i e = go (ltb bits (2 ^ i)) refl
-  where
-    go : (b : Bool) → ltb bits (2 ^ i) ≡ b → 2 ^ i ≤ bits
-    go false q = ltb-false bits (2 ^ i) q
-    go true q =
-        let one : bits / 2 ^ i % 2 ≡ 1 = eqb-true (bits / 2 ^ i % 2) 1 e in
-        let none : bits / 2 ^ i ≡ 0 = div-eq-of-lt (ltb-true bits (2 ^ i) q) in
-        absurd (omega arith)
 
 -- ---- what it leaves
 

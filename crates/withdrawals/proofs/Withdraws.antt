@@ -17,6 +17,7 @@ use Rattle.rules.specs.Record.{openingIn, partsIn, pricesIn, holdingsIn, openRe
 use Rattle.rules.specs.Book.{recordAt, replaced, storedAnswer, written}
 use Rattle.rules.proofs.Bools.{both}
 use Rattle.rules.proofs.Place.{few-slots}
+use Rattle.rules.proofs.Bits.{bit-within}
 use Rattle.rules.proofs.Sound.{price-within}
 use Rattle.rules.proofs.Withdraw as W
 use Rattle.record_test.specs.Statuses.{storedAt}
@@ -106,4 +107,4 @@ module _ (book : Bytes) (s : ℕ) (h : Untested book s) (now : ℤ) (i : ℕ) wh
   can-free g l e =
       let few = few-slots o (both (goodTerms (o .terms)) (goodState (o .terms) p) g .0) in
       let one : i < slotPlaces = omega arith in
-      record { allowed = may-look book s h; oneOf = one; inBits = W.bit-within (p .bits) i e; inSum = price-within (holdingsIn (recordAt s book)) (open-priced book s h) i one }
+      record { allowed = may-look book s h; oneOf = one; inBits = bit-within (p .bits) i e; inSum = price-within (holdingsIn (recordAt s book)) (open-priced book s h) i one }

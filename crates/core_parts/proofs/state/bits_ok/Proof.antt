@@ -4,7 +4,7 @@ use native.Mathlib.Omega.{arith}
 use borrow.Author.Needs.{needs}
 use borrow.Author.Tests.{lt-ltb}
 use lib.Pow.{pow-mono}
-use Rattle.core_parts.proofs.Places.{none-above}
+use Rattle.rules.proofs.Bits.{none-above}
 use Rattle.core_parts.proofs.state.bits_ok.Statement.{statement}
 use Rattle.core_parts.proofs.state.bits_ok.Tie as tie
 

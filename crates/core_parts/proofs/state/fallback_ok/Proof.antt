@@ -3,7 +3,8 @@ use borrow.Author.Tests.{eq-eqb, ne-eqb}
 use lib.Dec.{eqb}
 use mir.Syntax.{w64}
 use mir.Val.{ofZ}
-use Rattle.core_parts.proofs.Places.{zero-64, beq-true}
+use Rattle.numbers.proofs.Ranges.{zero-64}
+use Rattle.core_parts.proofs.Places.{beq-true}
 use Rattle.core_parts.proofs.state.fallback_ok.Statement.{statement}
 use Rattle.core_parts.proofs.state.fallback_ok.Tie as tie
 

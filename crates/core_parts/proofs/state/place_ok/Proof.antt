@@ -9,7 +9,7 @@ use mir.Syntax.{w64}
 use mir.Val.{SFits, ofZ}
 use mir.Facts.{toZ-ofZ}
 use Rattle.core_parts.specs.States.{linkPlace}
-use Rattle.core_parts.proofs.Places.{zero-64}
+use Rattle.numbers.proofs.Ranges.{zero-64}
 use Rattle.core_parts.proofs.state.place_ok.Statement.{statement}
 use Rattle.core_parts.proofs.state.place_ok.Tie as tie
 

@@ -3,14 +3,15 @@ use Prim.Native.Nat.{ℕ, _+_, _*_, _/_, _%_, _^_, _≤_, _<_}
 use mathlib.Core.Path.{_≡_, refl, sym, ap, _∙_}
 use mathlib.Core.Bool.{Bool, true, false, not, _||_}
 use native.Mathlib.Omega.{arith}
-use native.Mathlib.Nat.{div-one, div-eq-of-lt, lt-of-lt-of-le, le-trans, lt-mul-div-succ, mul-le-mul-right}
+use native.Mathlib.Nat.{div-one, div-eq-of-lt, lt-of-lt-of-le, le-trans, mul-le-mul-right}
 use lib.Arith.{lt-of-le-ne}
-use lib.Pow.{pow-pos, pow-mono, shr-shr}
+use lib.Pow.{pow-mono, shr-shr}
 use lib.Dec.{ltb, leb, eqb}
 use borrow.Author.Tests.{ltb-true, ltb-false, leb-true, le-leb, eq-eqb, ne-eqb, eqb-true, eqb-false}
 use Rattle.rules.specs.Taking.{bit}
 use Rattle.rules.specs.Series.{slotPlaces}
 use Rattle.rules.proofs.Bools.{or-true}
+use Rattle.rules.proofs.Bits.{none-above, bit-above}
 use Rattle.rules.proofs.Sums.{all<-yes, all<-no}
 use Rattle.record_holdings.specs.Tests.{allAfter}
 use Rattle.record_holdings.proofs.holdings.all_after.Statement.{statement}
@@ -34,14 +35,6 @@ within bits rest i h e l = go (ltb i slotPlaces) refl
     go false q =
         let none = div-eq-of-lt (lt-of-lt-of-le h (pow-mono (ltb-false i slotPlaces q))) in
         absurd (omega (arith, none, e))
-
--- with no rest, no bit is set from there on
-none-left : (bits i j : ℕ) → bits / 2 ^ i ≡ 0 → i ≤ j → bit j bits ≡ false
-unfolding bit
-none-left bits i j e l =
-    let below : bits < 2 ^ i * (0 + 1) = rw e at (lt-mul-div-succ bits (pow-pos i)) in
-    let low : bits < 2 ^ i = omega arith in
-    rw (div-eq-of-lt (lt-of-lt-of-le low (pow-mono l)))
 
 -- slot i is the lowest that is filled: it says the same as all of them
 lowest : (bits slot seconds i : ℕ) → i < slotPlaces → Clear bits i → bit i bits ≡ true → leb seconds (i * slot) ≡ allAfter bits slot seconds
@@ -110,7 +103,9 @@ returns-2 c =
   where
     go : (bits slot seconds i : ℕ) → bits / 2 ^ i ≡ 0 → Clear bits i → (j : ℕ) (b : Bool) → ltb j i ≡ b → not (bit j bits) || leb seconds (j * slot) ≡ true
     go bits slot seconds i e clear j true q = rw (clear j (ltb-true j i q))
-    go bits slot seconds i e clear j false q = rw (none-left bits i j e (ltb-false j i q))
+    go bits slot seconds i e clear j false q =
+        let low = ltb-true bits (2 ^ i) (sym (none-above bits i) ∙ eq-eqb (bits / 2 ^ i) 0 e) in
+        rw (bit-above bits i j low (ltb-false j i q))
 
 pub all-after-spec : {M : Type 1} → statement M
 all-after-spec =
