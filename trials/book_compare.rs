@@ -1,13 +1,13 @@
 //! Compares the proved book with the Rust's: hostile journals, records that are not acceptable or just are, records
 //! fixed by either order, books of other lengths.
 use super::acceptable::is_acceptable;
-use super::book::{BOOK, OLD_BOOK, RECORD, rust_command};
+use super::book::{ASK_WIDTH, BOOK, OLD_BOOK, RECORD, rust_command};
 use super::by_hand::{contests, damaged_records, full_windows, moved_prices, orders, tags};
 use super::journals::{Mood, change_field, each_command, fields, loose, move_price, next, planted, zeroed};
-use super::kinds::{Seen, kind, own_record};
+use super::kinds::{Seen, i64_at, kind, own_record};
 use super::record::high_half;
 use super::slots::{self, Past};
-use super::{Given, Random, brought, give, hex, lanternfold_command, vote};
+use super::{CommandEntry, Given, Random, brought, give, hex, lanternfold_command, vote, waits};
 use std::collections::BTreeMap;
 
 /// Both sides' books, which are equal before each command, and what was found.
@@ -32,6 +32,8 @@ struct Trial {
     /// how many of these were refused with 11.
     is_grown: bool,
     on_grown: [u64; 2],
+    /// Asks that were asked again at later times, and those of them whose answer was a Wait.
+    held: [u64; 2],
 }
 
 impl Trial {
@@ -51,6 +53,7 @@ impl Trial {
             decisions: [0; 2],
             is_grown: false,
             on_grown: [0; 2],
+            held: [0; 2],
         }
     }
 
@@ -81,6 +84,8 @@ impl Trial {
         let mut wrong = String::new();
         if ours != rust {
             wrong = "the answers differ".into();
+        } else if let Some(fault) = self.hold(&entry, record.as_deref(), ours) {
+            wrong = fault.into();
         } else if self.ours != self.rust {
             wrong = "the books differ".into();
         }
@@ -99,6 +104,24 @@ impl Trial {
             self.report(&wrong, ours, rust);
         }
         wrong.is_empty()
+    }
+
+    /// What later asks say against the answer to an ask, on either side (#102). A Wait is counted by what ends it.
+    fn hold(&mut self, entry: &[u8], record: Option<&[u8]>, given: Given) -> Option<&'static str> {
+        if entry.len() != ASK_WIDTH || entry[0] != 3 {
+            return None;
+        }
+        let (series, now) = (entry[1], i64_at(entry, 2));
+        for (side, book) in [(lanternfold_command as CommandEntry, &mut self.ours), (rust_command, &mut self.rust)] {
+            if let Some(fault) = waits::fault(side, book, series, now, given) {
+                return Some(fault);
+            }
+        }
+        let mark = record.and_then(|record| waits::mark(rust_command, &mut self.rust, record, series, now, given));
+        self.held[0] += 1;
+        self.held[1] += u64::from(mark.is_some());
+        mark.iter().for_each(|mark| self.seen.add(mark));
+        None
     }
 
     /// What the papers' texts say against our answer, and against the record that it left.
@@ -435,6 +458,8 @@ pub fn compare(random: &mut Random) -> bool {
     println!("book: {grown} on records that commands left from a zeroed book, {refused} of them refused with 11");
     let [own, changed] = trial.decisions;
     println!("book: {own} decisions on open series held to the core's own, {changed} that the vote changes");
+    let [held, waiting] = trial.held;
+    println!("book: {held} asks asked again at later times, {waiting} of them answered with a Wait");
     println!("book: settled by the chain, by the high half of its total: {:?}", trial.by_chain);
     let saw_all = trial.seen.report(|_| 1) && trial.by_chain.iter().all(|n| *n > 0);
     saw_all && kinds == Kept::KINDS && trial.different == 0

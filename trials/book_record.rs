@@ -12,7 +12,7 @@ use super::journals::{
 };
 use super::kinds::{Seen, kind, own_record};
 use super::slots::Past;
-use super::{BEFORE, Given, Random, brought, give, vote};
+use super::{BEFORE, Given, Random, brought, give, vote, waits};
 
 /// A journal: the book at its start, and the entries with their answers.
 struct Journal {
@@ -43,6 +43,21 @@ impl Journal {
         self.entries.push(entry);
         self.answers.push(given);
         given
+    }
+
+    /// Asks a series from the first second that there is on: at each time that a Wait names, at the second before
+    /// it, and at the last second.
+    fn follow(&mut self, series: u8) {
+        let mut now = i64::MIN;
+        let mut given = self.give(ask_entry(series, now));
+        let record = self.book[usize::from(series) * RECORD..][..RECORD].to_vec();
+        while let Some(mark) = waits::mark(rust_command, &mut self.book, &record, series, now, given) {
+            self.kinds.push(mark);
+            now = given.1[0] as i64;
+            assert_eq!(self.give(ask_entry(series, now - 1)), given, "a Wait that ends too soon");
+            given = self.give(ask_entry(series, now));
+        }
+        assert_eq!(self.give(ask_entry(series, i64::MAX)), given, "an answer for good");
     }
 
     fn put(&self, to: &mut Vec<u8>) {
@@ -252,6 +267,17 @@ fn other_lengths(random: &mut Random, sample: &mut Sample) {
     }
 }
 
+/// Acceptable records, asked when their Waits say.
+fn waited(random: &mut Random, sample: &mut Sample) {
+    for _ in 0..20_000 {
+        let mut journal = Journal::on(planted_book(random));
+        (0..4).for_each(|series| journal.follow(series));
+        if sample.wanted(&journal) > 0 {
+            sample.keep(&journal);
+        }
+    }
+}
+
 /// Writes the sample, and says whether every kind of answer is in it as often as wanted.
 pub fn record(path: &str, random: &mut Random) -> bool {
     let mut sample = Sample { bytes: Vec::new(), journals: 0, commands: 0, seen: Seen::new() };
@@ -278,6 +304,7 @@ pub fn record(path: &str, random: &mut Random) -> bool {
             }
         }
     }
+    waited(random, &mut sample);
     sample.write(path);
     sample.seen.report(u64::from)
 }

@@ -411,7 +411,42 @@ fn voted() -> Example {
     Example { name: "voted", about, steps }
 }
 
-pub fn examples() -> [Example; 11] {
+/// The expiry with which the hard deadline is the last second that there is.
+const LATE: i64 = i64::MAX - 100;
+
+fn scheduled() -> Example {
+    let steps = vec![
+        open(3, EXPIRY, "opened 3", ""),
+        ask(3, 0, "wait 3 1000", "before E: sleep until 1000"),
+        ask(3, 999, "wait 3 1000", "a second too early, with the same answer"),
+        ask(3, 1000, "wait 3 1100", "on time, with another: no slot and no link, so Wait H"),
+        ask(3, 1099, "wait 3 1100", ""),
+        ask(3, 1100, "wait 3 1105", "from H + 5"),
+        ask(3, 1104, "wait 3 1105", ""),
+        ask(3, 1105, "void 3", "no Wait: nothing more to sleep for"),
+        ask(3, i64::MAX, "void 3", "the same to the last second that there is"),
+        open(4, 2000, "opened 4", "the boundaries are 1960 to 1990, H is 2100"),
+        offer(4, 1962, 200_000, 1962, 1959, "used 4 0 - 1", ""),
+        ask(4, 2001, "wait 4 2100", "1 slot of the minimum 2, no link: Wait H"),
+        offer(4, 2003, 200_003, 1990, 1989, "used 4 3 - 1", "a print is used, so the series is to be asked again"),
+        ask(4, 2003, "wait 4 2008", "2 slots, the minimum: from max(2000, 2003) + 5, sooner than 2100"),
+        offer(4, 2004, 200_003, 1990, 1989, "refused 14", "a refused command moves nothing"),
+        open(5, LATE, "opened 5", "a command to another series moves nothing either; its H = E + 100 is 2^63 − 1"),
+        ask(4, 2007, "wait 4 2008", ""),
+        ask(4, 2008, "settle 4 0 2000015000 2", "the mean of 200000 and 200003; it stays until a command changes the series"),
+        withdraw(4, 2009, 3, "done", "not fixed yet, so the series is to be asked again"),
+        ask(4, 2009, "wait 4 2100", "1 slot of the minimum 2"),
+        ask(5, LATE - 1, "wait 5 9223372036854775707", "before E"),
+        ask(5, LATE, "wait 5 9223372036854775807", "no slot and no link: Wait H"),
+        ask(5, i64::MAX - 1, "wait 5 9223372036854775807", "a second too early"),
+        ask(5, i64::MAX, "refused 0", "on time: H + 5 does not fit, which is another answer too"),
+    ];
+    let about = "Request #102: the time in a Wait is exact. A second before it a series gives the same Wait, at that time \
+                 another answer. An answer that is no Wait stays.";
+    Example { name: "scheduled", about, steps }
+}
+
+pub fn examples() -> [Example; 12] {
     [
         paper(),
         window(),
@@ -424,6 +459,7 @@ pub fn examples() -> [Example; 11] {
         before_1970(),
         challenged(),
         voted(),
+        scheduled(),
     ]
 }
 

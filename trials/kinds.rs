@@ -3,10 +3,10 @@
 use super::book::{
     ASK_WIDTH, Answer, BOOK, OFFER_WIDTH, OPEN_WIDTH, RECORD, SLOT_PRICES, SLOTS, WITHDRAW_WIDTH, command,
 };
-use super::{Given, brought, hex, vote};
+use super::{Given, brought, hex, vote, waits};
 use std::collections::BTreeMap;
 
-/// Every kind but those that `vote` and `brought` count, and how many of it the sample has at least.
+/// Every kind but those that `vote`, `brought` and `waits` count, and how many of it the sample has at least.
 const KINDS: [(&str, u32); 78] = [
     ("refused 35", 20),
     ("refused 33: empty", 6),
@@ -88,11 +88,11 @@ const KINDS: [(&str, u32); 78] = [
     ("filled again by another print", 8),
 ];
 
-fn i64_at(b: &[u8], at: usize) -> i64 {
+pub fn i64_at(b: &[u8], at: usize) -> i64 {
     i64::from_le_bytes(std::array::from_fn(|i| b[at + i]))
 }
 
-fn u32_at(b: &[u8], at: usize) -> u32 {
+pub fn u32_at(b: &[u8], at: usize) -> u32 {
     u32::from_le_bytes(std::array::from_fn(|i| b[at + i]))
 }
 
@@ -212,7 +212,8 @@ pub struct Seen {
 impl Seen {
     pub fn new() -> Self {
         let plain = KINDS.iter().map(|(name, least)| (name.to_string(), *least));
-        let kinds: Vec<(String, u32)> = plain.chain(vote::kinds()).chain(brought::kinds()).collect();
+        let all = plain.chain(vote::kinds()).chain(brought::kinds()).chain(waits::kinds());
+        let kinds: Vec<(String, u32)> = all.collect();
         let names = kinds.iter().map(|kind| kind.0.clone()).collect();
         let counts = kinds.into_iter().map(|(name, least)| (name, Count { least, seen: 0 })).collect();
         Self { names, counts }

@@ -15,6 +15,7 @@ mod record;
 mod sheet_compare;
 mod slots;
 mod vote;
+mod waits;
 
 use metalbook_core::{accept_print, to_atoms};
 use std::collections::BTreeMap;

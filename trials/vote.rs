@@ -105,7 +105,7 @@ pub fn due(record: &[u8], entry: &[u8]) -> Option<(Given, bool)> {
 
 // ---- what is counted
 
-const METHODS: [&str; 6] = ["Window", "NextPrint", "PartialNextPrint", "PartialWindow", "Fallback", "Void"];
+pub const METHODS: [&str; 6] = ["Window", "NextPrint", "PartialNextPrint", "PartialWindow", "Fallback", "Void"];
 const COMMANDS: [&str; 5] = ["open", "offer", "ask", "fix", "withdraw"];
 const DECISIONS: [&str; 2] = ["ask", "fix"];
 const WORDS: [&str; 4] = ["Wait", "Settle", "0 for a time", "0 for the price"];

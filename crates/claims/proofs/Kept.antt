@@ -1,4 +1,4 @@
--- A refusal changes no byte, and an entry changes no byte of another series' record.
+-- A refusal and an ask change no byte. An entry changes no byte of another series' record, and not the length of the book.
 use Prim.Native.Nat.{ℕ, _+_, _*_, _-_, _<_, _≤_}
 use mathlib.Core.Path.{_≡_, refl, sym, ap, _∙_}
 use mathlib.Core.Bool.{Bool, true, false}
@@ -9,36 +9,50 @@ use lib.ListN.{length, take, drop, length-append, length-take, length-drop, take
 use lib.Seq.{take-at, take-append-le, drop-append-le, drop-append-add, drop-drop}
 use lib.Dec.{ltb, eqb}
 use lib.Arith.{lt-of-le-ne}
-use borrow.Author.Tests.{ltb-true, ltb-false, eqb-true, eqb-false}
-use Rattle.rules.proofs.Bools.{both}
-use Rattle.rules.specs.Log.{if_then_else_, maybe}
+use borrow.Author.Tests.{ltb-true, ltb-false, eqb-true, eq-eqb}
+use Rattle.rules.proofs.Bools.{both, not-both}
+use Rattle.rules.specs.Log.{if_then_else_, isSome, maybe}
 use Rattle.rules.specs.Bytes.{Bytes}
-use Rattle.rules.specs.Answers.{Result, ok, refused, Refused}
+use Rattle.rules.specs.Answers.{Result, ok, refused}
 use Rattle.rules.specs.Series.{Command, Series, step, changed}
 use Rattle.rules.specs.Record.{recordSize, seriesCount, bookSize, bytesOf, stored}
 use Rattle.rules.specs.Entries.{Entry, noCommand, command, entry}
-use Rattle.rules.specs.Book.{recordAt, replaced, storedAnswer, answerIn, answerTo, written, afterIn, bookAfter}
+use Rattle.rules.specs.Book.{recordAt, replaced, answerTo, written, afterIn, bookAfter}
 use Rattle.rules.specs.Ledger.{commandTo}
-use Rattle.claims.specs.Demand3.{isRefused}
+use Rattle.claims.specs.Demand3.{isAsk, isRefused}
 use Rattle.claims.specs.OneForm.{RefusalKeeps, OthersKeep}
 use Rattle.claims.proofs.Entries.{holdsOf, entry-series}
 use Rattle.claims.proofs.Book.{length-record}
-use Rattle.claims.proofs.Waits.{refused-kept}
+use Rattle.claims.proofs.Waits.{refused-kept, ask-kept}
 
--- ---- a refusal
+-- ---- a refusal, and an ask
+
+-- an entry whose command leaves its series as it was leaves the book as it was
+kept-by : (book e : Bytes)
+    → ((i : ℕ) (c : Command) (held : Series) → eqb (length book) bookSize ≡ true → entry e ≡ command i c → stored (recordAt i book) ≡ ok held → changed (step held c) ≡ none)
+    → bookAfter book e ≡ book
+unfolding bookAfter
+kept-by book e h = go (eqb (length book) bookSize) (entry e) refl refl
+  where
+    go : (b : Bool) (n : Entry) → eqb (length book) bookSize ≡ b → entry e ≡ n → (if b then afterIn book n else book) ≡ book
+    go false n len q = refl
+    go true (noCommand r) len q = refl
+    go true (command i c) len q = at (stored (recordAt i book)) refl
+      where
+        at : (x : Result Series) → stored (recordAt i book) ≡ x → written i book x c ≡ book
+        at (refused r) there = refl
+        at (ok held) there = rw (h i c held len q there)
 
 pub refusal-keeps : RefusalKeeps
-unfolding answerTo bookAfter
-refusal-keeps book e r h = go (eqb (length book) bookSize) (entry e) h
-  where
-    held : (s : ℕ) (c : Command) (x : Result Series) → storedAnswer x c ≡ Refused r → written s book x c ≡ book
-    held s c (refused q) h = refl
-    held s c (ok series) h = rw (refused-kept series c (ap isRefused h))
+unfolding answerTo
+refusal-keeps book e r h = kept-by book e (λ i c held len q there. refused-kept held c (ap isRefused (rw (len, q, there) at h)))
 
-    go : (b : Bool) (n : Entry) → (if b then answerIn book n else Refused 35) ≡ Refused r → (if b then afterIn book n else book) ≡ book
-    go false n h = refl
-    go true (noCommand q) h = refl
-    go true (command s c) h = held s c (stored (recordAt s book)) h
+pub ask-keeps : (book e : Bytes) (s : ℕ) (c : Command) → commandTo s (entry e) ≡ some c → isAsk c ≡ true → bookAfter book e ≡ book
+ask-keeps book e s c h a = kept-by book e (λ i k held len q there. ask-kept held k (ap isAsk (same k (eqb s i) (rw q at h)) ∙ a))
+  where
+    same : (k : Command) (b : Bool) → (if b then some k else none) ≡ some c → k ≡ c
+    same k true e = cc
+    same k false e = cc
 
 -- ---- a record put into a book: it is there, and the others are as they were
 
@@ -92,25 +106,39 @@ module _ (i : ℕ) (r book : Bytes) (size : length r ≡ recordSize) (fit : i * 
       go true e = before s (ltb-true s i e)
       go false e = behind s (lt-of-le-ne (ltb-false s i e) (λ q. ne (sym q)))
 
-pub others-keep : OthersKeep
-unfolding bookAfter
-others-keep book e s h = go (eqb (length book) bookSize) (entry e) refl h (entry-series e)
-  where
-    held : (i : ℕ) (c : Command) → i < seriesCount → length book ≡ bookSize → (s ≡ i → ⊥) → (x : Result Series) → recordAt s (written i book x c) ≡ recordAt s book
-    held i c l len ne (refused q) = refl
-    held i c l len ne (ok series) = at (changed (step series c))
-      where
-        at : (x : Option Series) → recordAt s (maybe book (λ next. replaced i (bytesOf next) book) x) ≡ recordAt s book
-        at none = refl
-        at (some next) = other i (bytesOf next) book (length-record next) (omega arith) s ne
+  length-put : length (replaced i r book) ≡ length book
+  unfolding replaced
+  length-put =
+      let rest = drop (i * recordSize + recordSize) book in
+      rw (length-append (take (i * recordSize) book) (r ++ rest), length-append r rest, length-drop (i * recordSize + recordSize) book) (omega (arith, ahead, size, fit))
 
-    go : (b : Bool) (n : Entry) → eqb (length book) bookSize ≡ b → commandTo s n ≡ none → holdsOf (λ c. true) n ≡ true → recordAt s (if b then afterIn book n else book) ≡ recordAt s book
-    go false n len h k = refl
-    go true (noCommand q) len h k = refl
-    go true (command i c) len h k =
-        held i c (ltb-true i seriesCount (both (ltb i seriesCount) true k .0)) (eqb-true (length book) bookSize len)
-        (different (eqb s i) refl h) (stored (recordAt i book))
+-- ---- the book after an entry
+
+-- the book after an entry is the same, or has another record in the place of a series that the entry is a command of: what holds of both holds of it
+after-by : (P : Bytes → Type 0) (book e : Bytes) → P book
+    → ((i : ℕ) (r : Bytes) → isSome (commandTo i (entry e)) ≡ true → length r ≡ recordSize → i * recordSize + recordSize ≤ length book → P (replaced i r book))
+    → P (bookAfter book e)
+unfolding bookAfter
+after-by P book e same put = go (eqb (length book) bookSize) (entry e) refl refl (entry-series e)
+  where
+    held : (i : ℕ) (c : Command) → entry e ≡ command i c → i < seriesCount → length book ≡ bookSize → (x : Result Series) → P (written i book x c)
+    held i c q l len (refused r) = same
+    held i c q l len (ok series) = at (changed (step series c))
       where
-        different : (b : Bool) → eqb s i ≡ b → (if b then some c else none) ≡ none → s ≡ i → ⊥
-        different true q h = let z : _≡_ {A = ℕ} 0 1 = cc in let z : ⊥ = omega arith in absurd z
-        different false q h = eqb-false s i q
+        at : (x : Option Series) → P (maybe book (λ next. replaced i (bytesOf next) book) x)
+        at none = same
+        at (some next) = put i (bytesOf next) (rw (q, eq-eqb i i refl)) (length-record next) (omega arith)
+
+    go : (b : Bool) (n : Entry) → eqb (length book) bookSize ≡ b → entry e ≡ n → holdsOf (λ c. true) n ≡ true → P (if b then afterIn book n else book)
+    go false n len q k = same
+    go true (noCommand r) len q k = same
+    go true (command i c) len q k =
+        held i c q (ltb-true i seriesCount (both (ltb i seriesCount) true k .0)) (eqb-true (length book) bookSize len) (stored (recordAt i book))
+
+pub others-keep : OthersKeep
+others-keep book e s h =
+    after-by (λ b. recordAt s b ≡ recordAt s book) book e refl
+    (λ i r k size fit. other i r book size fit s (λ same. not-both (ap (λ (j : ℕ). isSome (commandTo j (entry e))) same ∙ k) (ap isSome h)))
+
+pub length-after : (book e : Bytes) → length (bookAfter book e) ≡ length book
+length-after book e = after-by (λ b. length b ≡ length book) book e refl (λ i r k size fit. length-put i r book size fit)

@@ -5,3 +5,4 @@ pub mod Demand3
 pub mod OneForm
 pub mod Kept
 pub mod Brought
+pub mod ExactWaits

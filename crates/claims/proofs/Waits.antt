@@ -8,6 +8,7 @@ use lib.IntN.{ℤ}
 use lib.Dec.{leb, eqb}
 use borrow.Author.Tests.{lt-ltb, eqb-true, eq-eqb}
 use Rattle.rules.proofs.Bools.{both, every-at}
+use Rattle.rules.proofs.Integers.{le-refl}
 use Rattle.rules.proofs.Bytes.{bytes-are, little-bytes, signed-word, word-below}
 use Rattle.rules.proofs.Series.{opening-good}
 use Rattle.rules.proofs.Fields.{opening-fits}
@@ -40,7 +41,7 @@ ask-series : (s : ℕ) (t : ℤ) → unsignedAt (askOf s t) 1 1 ≡ s
 unfolding unsignedAt askOf
 ask-series s t = omega arith
 
-ask-entry : (s : ℕ) (t : ℤ) → s < seriesCount → fits t ≡ true → entry (askOf s t) ≡ command s (Ask t)
+pub ask-entry : (s : ℕ) (t : ℤ) → s < seriesCount → fits t ≡ true → entry (askOf s t) ≡ command s (Ask t)
 unfolding entry askOf bytes
 ask-entry s t h f = rw (ask-series s t, lt-ltb s seriesCount h) (ap (λ (x : ℤ). command s (Ask x)) (ask-time s t f))
 
@@ -103,7 +104,7 @@ refused-kept (fixed r o c a at) (Ask now) h = refl
 refused-kept (fixed r o c a at) (Fix now) h = refl
 refused-kept (fixed r o c a at) (Withdraw now i) h = refl
 
-ask-kept : (s : Series) (c : Command) → isAsk c ≡ true → changed (step s c) ≡ none
+pub ask-kept : (s : Series) (c : Command) → isAsk c ≡ true → changed (step s c) ≡ none
 unfolding step
 ask-kept s (Open o) h = cc
 ask-kept s (Offer q now) h = cc
@@ -114,6 +115,10 @@ ask-kept s (Fix now) h = cc
 ask-kept s (Withdraw now i) h = cc
 
 -- ---- entries between the asks
+
+-- one that is no command of the series may always stand there
+others-stand : (a : Answer) → mayStand none a ≡ true
+others-stand a = refl
 
 module _ (s : ℕ) where
   -- one entry that may stand there leaves the ledger of s as it was
@@ -160,8 +165,8 @@ module _ (s : ℕ) where
     settles l o c n t h e f (stays a good later) =
         Settles.stays a good
         (λ m k u fu le. let (b, r) = between-kept l m h k in ask-answered (l ▹▹ m) o c u b (r ∙ e) fu ∙ later u le)
-    settles l o c (suc n) t h e f (waits until fu w d) =
-        Settles.waits until fu (ask-answered l o c t h e f ∙ w)
+    settles l o c (suc n) t h e f (waits until fu ahead w d) =
+        Settles.waits until fu (ask-answered l o c t h e f ∙ w t (le-refl t) ahead)
         (λ m k.
         let next = l ▹ askOf s t in
         let (b, r) = between-kept next m (rw (h, ask-bytes s t small)) k in

@@ -1,3 +1,4 @@
 pub mod Demand3
 pub mod OneForm
 pub mod Brought
+pub mod ExactWaits

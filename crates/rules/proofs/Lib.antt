@@ -20,6 +20,7 @@ pub mod Withdraw
 pub mod Offer
 pub mod Leaves
 pub mod Read
+pub mod Asked
 pub mod Examples
 pub mod Edges
 pub mod Decision

@@ -129,11 +129,11 @@ module _ (bs : Bytes) where
       go true a e = (a, cc)
       go false a e = (cc, cc)
 
-  abbrev fixedIn : Series
+  abbrev pub fixedIn : Series
   fixedIn = fixed (orderIn bs) (openingIn bs) (holdingsIn bs) (outcome (method (methodIn bs)) (priceIn bs) (samplesIn bs)) (fixingTimeIn bs)
 
   -- what holds by the tests of each tag holds of what is read
-  by-tag : (P : Series → Type 0) → acceptable bs ≡ true → P empty
+  pub by-tag : (P : Series → Type 0) → acceptable bs ≡ true → P empty
       → (every (bodyTests bs) ≡ true → P (live (openingIn bs) (holdingsIn bs)))
       → (every (bodyTests bs) ≡ true → every (fixedTests bs) ≡ true → P fixedIn)
       → P (seriesIn bs)

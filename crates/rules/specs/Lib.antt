@@ -6,6 +6,7 @@ pub mod Prints
 pub mod Mean
 pub mod Taking
 pub mod Decision
+pub mod Exact
 pub mod State
 pub mod Series
 pub mod Brought

@@ -122,4 +122,5 @@ fn main() {
     example(b"before_1970", b"before_1970.journal", b"before_1970.sheet");
     example(b"withdraw", b"withdraw.journal", b"withdraw.sheet");
     example(b"voted", b"voted.journal", b"voted.sheet");
+    example(b"scheduled", b"scheduled.journal", b"scheduled.sheet");
 }
