@@ -1,10 +1,12 @@
 //! Compares the proved book with the Rust's: hostile journals, records that are not acceptable or just are, records
-//! fixed by either order, books of other lengths.
+//! fixed by either order, books of other lengths, prints of one feed posted in different orders.
 use super::acceptable::is_acceptable;
 use super::book::{ASK_WIDTH, BOOK, OLD_BOOK, RECORD, rust_command};
 use super::by_hand::{contests, damaged_records, full_windows, moved_prices, orders, tags};
+use super::feeds::{self, BREAKS, List, Told};
 use super::journals::{Mood, change_field, each_command, fields, loose, move_price, next, planted, zeroed};
 use super::kinds::{Seen, i64_at, kind, own_record};
+use super::posted::Posting;
 use super::record::high_half;
 use super::slots::{self, Past};
 use super::{CommandEntry, Given, Random, brought, give, hex, lanternfold_command, vote, waits};
@@ -18,6 +20,8 @@ struct Trial {
     before: Vec<u8>,
     start: Vec<u8>,
     entries: Vec<Vec<u8>>,
+    /// The answers to the entries, ours and the Rust's.
+    answers: Vec<[Given; 2]>,
     past: Past,
     seen: Seen,
     tried: u64,
@@ -34,6 +38,11 @@ struct Trial {
     on_grown: [u64; 2],
     /// Asks that were asked again at later times, and those of them whose answer was a Wait.
     held: [u64; 2],
+    /// Lists that post the prints of a feed; pairs of them that keep #104's premises; for each premise the pairs that
+    /// break it alone, and those of them whose prints left something else.
+    lists: u64,
+    pairs: u64,
+    broken: BTreeMap<&'static str, [u64; 2]>,
 }
 
 impl Trial {
@@ -44,6 +53,7 @@ impl Trial {
             before: zeroed(),
             start: zeroed(),
             entries: Vec::new(),
+            answers: Vec::new(),
             past: Past::default(),
             seen: Seen::new(),
             tried: 0,
@@ -54,6 +64,9 @@ impl Trial {
             is_grown: false,
             on_grown: [0; 2],
             held: [0; 2],
+            lists: 0,
+            pairs: 0,
+            broken: BTreeMap::new(),
         }
     }
 
@@ -64,6 +77,7 @@ impl Trial {
             side.extend_from_slice(book);
         }
         self.entries.clear();
+        self.answers.clear();
         self.past.clear();
         self.is_grown = false;
     }
@@ -100,6 +114,7 @@ impl Trial {
             wrong = "bytes are changed that the answer does not allow".into();
         }
         self.entries.push(entry);
+        self.answers.push([ours, rust]);
         if !wrong.is_empty() {
             self.report(&wrong, ours, rust);
         }
@@ -173,6 +188,56 @@ impl Trial {
             self.before[at..at + RECORD].copy_from_slice(&self.rust[at..at + RECORD]);
         }
         self.before == self.rust
+    }
+
+    /// Gives a list to both sides, and says what each made of it; nothing where they differ.
+    fn tell<'a>(&mut self, list: &'a List) -> Option<[Told<'a>; 2]> {
+        self.begin(&list.start);
+        self.is_grown = list.start.iter().all(|b| *b == 0);
+        self.lists += 1;
+        if !list.entries.iter().all(|entry| self.both(entry.clone())) {
+            return None;
+        }
+        let answers = |side: usize| self.answers.iter().map(|given| given[side]).collect();
+        Some([Told::new(list, answers(0), &self.ours), Told::new(list, answers(1), &self.rust)])
+    }
+
+    /// Holds two lists of each side to #104. Where they must keep its premises, it is a fault if they do not.
+    fn hold_pair(&mut self, posting: &Posting, a: &[Told; 2], b: &[Told; 2], must_keep: bool) {
+        for (a, b) in a.iter().zip(b) {
+            let broken = feeds::broken(&posting.feed, a, b);
+            if !broken.is_empty() && must_keep {
+                self.report_pair("the lists are not such as #104 speaks of", a, b);
+            } else if broken.is_empty() && !feeds::is_due(a, b) {
+                self.report_pair("by #104's text the records differ only in what follows arrival", a, b);
+            }
+        }
+        let [a, b] = [&a[1], &b[1]];
+        match feeds::broken(&posting.feed, a, b).as_slice() {
+            [] => {
+                self.pairs += 1;
+                feeds::marks(&posting.feed, a, b).iter().for_each(|mark| self.seen.add(mark));
+            }
+            [premise] => {
+                let is_other = feeds::left_other(a, b);
+                let counts = self.broken.entry(premise).or_default();
+                counts[0] += 1;
+                counts[1] += u64::from(is_other);
+                if is_other {
+                    self.seen.add(&feeds::mark_of_break(premise));
+                }
+            }
+            _ => (),
+        }
+    }
+
+    /// Prints the first two lists at fault.
+    fn report_pair(&mut self, wrong: &str, a: &Told, b: &Told) {
+        self.different += 1;
+        if self.different == 1 {
+            println!("book: first difference: {wrong}");
+            feeds::print_both(a, b);
+        }
     }
 
     /// Prints the first difference with all that leads to it.
@@ -434,6 +499,34 @@ fn other_lengths(trial: &mut Trial, random: &mut Random, records: &[[u8; RECORD]
     }
 }
 
+/// The lists of a posting, each with each other.
+fn posted(trial: &mut Trial, posting: &Posting, must_keep: bool) {
+    let told: Vec<Option<[Told; 2]>> = posting.lists.iter().map(|list| trial.tell(list)).collect();
+    let told: Vec<[Told; 2]> = told.into_iter().flatten().collect();
+    for (i, b) in told.iter().enumerate() {
+        told[..i].iter().for_each(|a| trial.hold_pair(posting, a, b, must_keep));
+    }
+}
+
+/// Prints of one feed in different orders, prints left out, and lists that break a premise.
+fn all_posted(trial: &mut Trial, random: &mut Random) {
+    for _ in 0..14_000 {
+        posted(trial, &Posting::kept(random), true);
+    }
+    for _ in 0..4_000 {
+        posted(trial, &Posting::thinned(random), false);
+    }
+    for premise in BREAKS {
+        for _ in 0..1_500 {
+            posted(trial, &Posting::broken(random, premise), false);
+        }
+    }
+    println!("book: {} lists of prints, {} pairs of them held to #104", trial.lists, trial.pairs);
+    for (premise, [pairs, other]) in &trial.broken {
+        println!("book: {pairs} pairs with {premise}, {other} of them with other slots or another fallback");
+    }
+}
+
 /// Whether no command differed, and every kind of answer was seen.
 pub fn compare(random: &mut Random) -> bool {
     let mut trial = Trial::new();
@@ -450,6 +543,7 @@ pub fn compare(random: &mut Random) -> bool {
     by_hand(&mut trial, random);
     brought_by_hand(&mut trial, random);
     other_lengths(&mut trial, random, &records);
+    all_posted(&mut trial, random);
     println!(
         "book: {} commands tried, {} different; {} on acceptable records, {} on others",
         trial.tried, trial.different, trial.records[0], trial.records[1]

@@ -6,11 +6,13 @@ use super::brought::Case;
 use super::by_hand::{
     EXPIRY, MAX_CONF_BPS, TERMS, contests, damaged_records, few_tags, full_windows, moved_prices, orders, print,
 };
+use super::feeds::{self, List, Told};
 use super::journals::{
     Mood, ask_entry, change_field, each_command, fields, fix_entry, loose, next, offer_entry, open_entry, planted,
     withdraw_entry, zeroed,
 };
 use super::kinds::{Seen, kind, own_record};
+use super::posted::Posting;
 use super::slots::Past;
 use super::{BEFORE, Given, Random, brought, give, vote, waits};
 
@@ -278,6 +280,33 @@ fn waited(random: &mut Random, sample: &mut Sample) {
     }
 }
 
+/// The journal of a list, and what the Rust made of it.
+fn posted<'a>(list: &'a List) -> (Journal, Told<'a>) {
+    let mut journal = Journal::on(list.start.clone());
+    list.entries.iter().for_each(|entry| _ = journal.give(entry.clone()));
+    let told = Told::new(list, journal.answers.clone(), &journal.book);
+    (journal, told)
+}
+
+/// The prints of one feed in two orders: a journal for each, or one where both are in one list.
+fn all_posted(random: &mut Random, sample: &mut Sample) {
+    for least in [36, 14, 8, 4, 2, 1] {
+        for _ in 0..20_000 {
+            let posting = Posting::short(random);
+            let [(mut first, a), (second, b)] = [0, 1].map(|i| posted(&posting.lists[i]));
+            assert!(feeds::broken(&posting.feed, &a, &b).is_empty() && feeds::is_due(&a, &b), "two orders of one feed");
+            first.kinds.extend(feeds::marks(&posting.feed, &a, &b));
+            let is_short = first.entries.len().max(second.entries.len()) <= 32;
+            if is_short && sample.wanted(&first) >= least {
+                sample.keep(&first);
+                if first.entries != second.entries {
+                    sample.keep(&second);
+                }
+            }
+        }
+    }
+}
+
 /// Writes the sample, and says whether every kind of answer is in it as often as wanted.
 pub fn record(path: &str, random: &mut Random) -> bool {
     let mut sample = Sample { bytes: Vec::new(), journals: 0, commands: 0, seen: Seen::new() };
@@ -305,6 +334,7 @@ pub fn record(path: &str, random: &mut Random) -> bool {
         }
     }
     waited(random, &mut sample);
+    all_posted(random, &mut sample);
     sample.write(path);
     sample.seen.report(u64::from)
 }

@@ -446,7 +446,83 @@ fn scheduled() -> Example {
     Example { name: "scheduled", about, steps }
 }
 
-pub fn examples() -> [Example; 12] {
+/// The prints of one feed: each has the pub of the one before it as its prev. The second is too wide for 100 bps.
+const FEED: [(i64, u64, i64, i64); 5] = [
+    (200_000, 0, 962, 959),
+    (200_500, 2_006, 975, 962),
+    (200_003, 0, 990, 975),
+    (200_100, 0, 1001, 990),
+    (200_300, 0, 1003, 1001),
+];
+
+/// The offer of one of these prints.
+fn offer_of_feed(series: u8, now: i64, place: usize, line: &'static str, why: &'static str) -> Step {
+    let (price, conf, published, prev) = FEED[place];
+    let also = if conf == 0 { String::new() } else { format!(", conf {conf}") };
+    offer_with(series, Offer { conf, ..print(now, price, published, prev) }, &also, line, why)
+}
+
+fn posted_in_order() -> Example {
+    let offer = offer_of_feed;
+    let steps = vec![
+        open(3, EXPIRY, "opened 3", ""),
+        open_of_3(4, "opened 4", "2 slots will not be enough for Window"),
+        offer(3, 962, 0, "used 3 0 - 1", ""),
+        offer(4, 962, 0, "used 4 0 - 1", ""),
+        offer(3, 976, 1, "refused 17", "100 bps of 200500 are 2005; the next print follows it all the same"),
+        offer(4, 976, 1, "refused 17", ""),
+        offer(3, 991, 2, "used 3 3 - 1", "at the boundary 990, and a newer fallback"),
+        offer(4, 991, 2, "used 4 3 - 1", ""),
+        withdraw(3, 992, 1, "refused 41", "the slot is empty; a refused withdraw changes nothing"),
+        fix(3, 999, "refused 39", "before E; a refused fix changes nothing"),
+        offer(3, 1002, 3, "used 3 - 0 0", "prev ≤ E < pub: the first link"),
+        offer(4, 1002, 3, "used 4 - 0 0", ""),
+        offer(3, 1004, 4, "used 3 - 1 0", "its prev is the last link's time: k = 2 links"),
+        offer(4, 1004, 4, "used 4 - 1 0", ""),
+        offer(3, 1004, 2, "refused 14", "a repeat: slot 3 is filled, the fallback no newer"),
+        ask(3, 1004, "wait 3 1005", "2 slots, the minimum: from max(1000, 991) + 5"),
+        ask(4, 1004, "wait 4 1005", "2 slots of the minimum 3, but 2 links: from E + 5"),
+        fix(3, 1005, "settle 3 0 2000015000 2", "the mean of 200000 and 200003"),
+        fix(4, 1005, "settle 4 1 2002000000 2", "NextPrint: the mean of the links, 200100 and 200300"),
+    ];
+    let about = "Request #104: the prints of one feed, each posted as it comes, to series 3 and, with a minimum of 3, to \
+                 series 4. When they are fixed, both hold 200000 in slot 0 and 200003 in slot 3, the sum 400003 and the \
+                 fallback 200003 of 990. The chain has two links, of 1001 and 1003. Window changed is 991, link changed \
+                 1004, fallback changed 991.";
+    Example { name: "posted_in_order", about, steps }
+}
+
+fn posted_late() -> Example {
+    let offer = offer_of_feed;
+    let steps = vec![
+        open(3, EXPIRY, "opened 3", ""),
+        open_of_3(4, "opened 4", ""),
+        offer(3, 1006, 4, "refused 14", "prev is after E, and the link that it follows is not there yet"),
+        offer(4, 1006, 4, "refused 14", ""),
+        offer(3, 1007, 2, "used 3 3 - 1", ""),
+        offer(4, 1007, 2, "used 4 3 - 1", ""),
+        offer(3, 1008, 3, "used 3 - 0 0", "the only link: the print of 1003 is not offered again"),
+        offer(4, 1008, 3, "used 4 - 0 0", ""),
+        ask(3, 1008, "wait 3 1100", "1 slot of the minimum 2, 1 link of k = 2: Wait H"),
+        withdraw(3, 1009, 0, "refused 41", "slot 0 is empty as yet"),
+        fix(3, 1009, "refused 39", "still Wait H"),
+        offer(3, 1010, 0, "used 3 0 - 0", "the same slot as in the other order; the fallback of 990 is newer"),
+        offer(4, 1010, 0, "used 4 0 - 0", ""),
+        offer(3, 1011, 1, "refused 17", "acceptance does not ask what came before"),
+        offer(4, 1011, 1, "refused 17", ""),
+        ask(3, 1011, "wait 3 1015", "2 slots: from max(1000, 1010) + 5, where it was max(1000, 991) + 5"),
+        ask(4, 1011, "wait 4 1100", "2 slots of the minimum 3, 1 link of k = 2: Wait H"),
+        fix(3, 1015, "settle 3 0 2000015000 2", "the same slots, so the same price and samples"),
+        ask(4, 1104, "wait 4 1105", "2 slots, 1 link: the window's turn, from max(1100, 1010) + 5"),
+        fix(4, 1105, "settle 4 3 2000015000 2", "PartialWindow: with a shorter chain it is another method"),
+    ];
+    let about = "Request #104: the prints of `posted_in_order` in another order, and later. When the series are fixed, \
+                 slots, slot prices, sum and fallback are the same as there. What follows arrival is not: the chain has \
+                 the link of 1001 only, window changed is 1010, link changed 1008, fallback changed 1007.";
+    Example { name: "posted_late", about, steps }
+}
+
+pub fn examples() -> [Example; 14] {
     [
         paper(),
         window(),
@@ -460,6 +536,8 @@ pub fn examples() -> [Example; 12] {
         challenged(),
         voted(),
         scheduled(),
+        posted_in_order(),
+        posted_late(),
     ]
 }
 

@@ -329,7 +329,7 @@ pub fn command_to(random: &mut Random, book: &[u8], series: u8, mood: Mood) -> V
 }
 
 /// Changes a command's width or its first byte.
-fn misshapen(random: &mut Random, entry: &mut Vec<u8>) {
+pub fn misshapen(random: &mut Random, entry: &mut Vec<u8>) {
     match random.below(8) {
         0 => entry.clear(),
         1 => entry.truncate(entry.len() - 1),
@@ -431,7 +431,7 @@ fn written(random: &mut Random, mut s: record::Series, greatest: u64) -> [u8; RE
 const GREATEST: u64 = i64::MAX as u64;
 
 /// An expiry as ever, or the least with which some slot, a link or a fallback can be there.
-fn least_expiry(random: &mut Random, t: &OracleParams) -> i64 {
+pub fn least_expiry(random: &mut Random, t: &OracleParams) -> i64 {
     let [window, slot, lookback] = [t.window_s(), t.slot_s(), t.fallback_lookback_s()].map(i64::from);
     let later = random.below(u64::from(t.slots())) as i64;
     let least = [1, 2, 3, 2 + window, 2 + window - later * slot, 2 + lookback];

@@ -3,10 +3,10 @@
 use super::book::{
     ASK_WIDTH, Answer, BOOK, OFFER_WIDTH, OPEN_WIDTH, RECORD, SLOT_PRICES, SLOTS, WITHDRAW_WIDTH, command,
 };
-use super::{Given, brought, hex, vote, waits};
+use super::{Given, brought, feeds, hex, vote, waits};
 use std::collections::BTreeMap;
 
-/// Every kind but those that `vote`, `brought` and `waits` count, and how many of it the sample has at least.
+/// Every kind but those that `vote`, `brought`, `waits` and `feeds` count, and how many of it the sample has at least.
 const KINDS: [(&str, u32); 78] = [
     ("refused 35", 20),
     ("refused 33: empty", 6),
@@ -183,17 +183,25 @@ pub fn kind(record: Option<&[u8]>, entry: &[u8], given: Given) -> String {
 
 const METHODS: [&str; 5] = ["Window", "NextPrint", "PartialNextPrint", "PartialWindow", "Fallback"];
 
+/// Whether an entry is a command of its width, for whatever series.
+pub fn is_command(entry: &[u8]) -> bool {
+    let width = match entry.first() {
+        Some(1) => OPEN_WIDTH,
+        Some(2) => OFFER_WIDTH,
+        Some(3 | 4) => ASK_WIDTH,
+        Some(6) => WITHDRAW_WIDTH,
+        _ => return false,
+    };
+    entry.len() == width
+}
+
 /// The record of the series that a command names, where it is of its width and there is such a series.
 pub fn own_record<'a>(book: &'a [u8], entry: &[u8]) -> Option<&'a [u8]> {
-    let width = match entry.first()? {
-        1 => OPEN_WIDTH,
-        2 => OFFER_WIDTH,
-        3 | 4 => ASK_WIDTH,
-        6 => WITHDRAW_WIDTH,
-        _ => return None,
-    };
-    let at = usize::from(*entry.get(1)?) * RECORD;
-    if entry.len() == width && book.len() == BOOK { book.get(at..at + RECORD) } else { None }
+    if !is_command(entry) || book.len() != BOOK {
+        return None;
+    }
+    let at = usize::from(entry[1]) * RECORD;
+    book.get(at..at + RECORD)
 }
 
 /// How many of a kind the sample has at least, and how often it was seen.
@@ -212,7 +220,7 @@ pub struct Seen {
 impl Seen {
     pub fn new() -> Self {
         let plain = KINDS.iter().map(|(name, least)| (name.to_string(), *least));
-        let all = plain.chain(vote::kinds()).chain(brought::kinds()).chain(waits::kinds());
+        let all = plain.chain(vote::kinds()).chain(brought::kinds()).chain(waits::kinds()).chain(feeds::kinds());
         let kinds: Vec<(String, u32)> = all.collect();
         let names = kinds.iter().map(|kind| kind.0.clone()).collect();
         let counts = kinds.into_iter().map(|(name, least)| (name, Count { least, seen: 0 })).collect();

@@ -6,7 +6,7 @@ use mathlib.Core.Option.{Option, none, some}
 use mathlib.Core.List.{_++_, append-assoc, append-nil}
 use native.Mathlib.Omega.{arith}
 use native.Mathlib.Nat.{suc-mul}
-use lib.ListN.{length, take, drop, replicate, length-append, length-drop, replicate-append-replicate, drop-of-length-le}
+use lib.ListN.{length, take, drop, replicate, length-append, length-drop, length-replicate, replicate-append-replicate, drop-of-length-le}
 use lib.Seq.{take-at, drop-at, take-append-le, drop-append-le, take-all}
 use lib.Dec.{ltb, eqb}
 use lib.Arith.{lt-of-le-ne}
@@ -163,6 +163,11 @@ zero-records (suc n) = rw (zero-records n, replicate-append-replicate (n * recor
 zeroed-book : bookOf (ledgers ε) ≡ zeros bookSize
 unfolding bookOf ledgers commandsTo ledger opening zeros bytesOf
 zeroed-book = zero-records seriesCount
+
+pub zeroed-place : (s : ℕ) → s < seriesCount → recordAt s (zeros bookSize) ≡ zeros recordSize
+unfolding zeros
+zeroed-place s m =
+    ap (recordAt s) (sym (zero-records seriesCount)) ∙ record-at (λ t. replicate recordSize 0) (λ t. length-replicate {A = ℕ} recordSize 0) seriesCount s m
 
 -- the book after any list is the ledgers' records
 pub run-is : (l : Log Bytes) → all areBytes l ≡ true → run l ≡ bookOf (ledgers l)

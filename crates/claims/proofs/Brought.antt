@@ -7,7 +7,7 @@ use mathlib.Core.List.{List, _∷_, _++_}
 use native.Mathlib.Omega.{arith}
 use lib.ListN.{length, drop}
 use lib.Dec.{ltb, eqb}
-use borrow.Author.Tests.{ltb-true, le-leb, lt-leb, ne-eqb}
+use borrow.Author.Tests.{le-leb, lt-leb, ne-eqb}
 use Rattle.rules.proofs.Bools.{both, every-more}
 use Rattle.rules.proofs.Bytes.{drop-bytes, take-bytes}
 use Rattle.rules.proofs.Fields.{commandFits}
@@ -22,11 +22,10 @@ use Rattle.rules.specs.Series.{Command, Series, step, changed, after}
 use Rattle.rules.specs.Brought.{broughtTests, leftByPrints}
 use Rattle.rules.specs.Record.{recordSize, seriesCount, bookSize, bytesOf, goodPrices, openingIn, partsIn, holdingsIn, tagIn, bodyTests, openTests, fixedTests, acceptable, stored}
 use Rattle.rules.specs.Entries.{command, entry}
-use Rattle.rules.specs.Book.{recordAt, replaced, answerIn, answerTo, afterIn, bookAfter}
+use Rattle.rules.specs.Book.{recordAt, answerIn, answerTo, afterIn, bookAfter}
 use Rattle.claims.specs.Brought.{conditionsAnd, conditions, Brought}
 use Rattle.claims.proofs.Entries.{entry-fits}
-use Rattle.claims.proofs.Book.{length-record}
-use Rattle.claims.proofs.Kept.{put-back}
+use Rattle.claims.proofs.Kept.{record-after}
 
 -- ---- the conditions
 
@@ -91,17 +90,16 @@ module _ (book : Bytes) (len : length book ≡ bookSize) (e : Bytes) (s : ℕ) (
 
     still-read : stored (recordAt s (bookAfter book e)) ≡ ok (after held c)
     still-read =
-        let (small, fc) = both (ltb s seriesCount) (commandFits c) (rw h at (entry-fits e are)) in
-        ap (λ (b : Bytes). stored (recordAt s b)) after-at ∙ rw there (go (ltb-true s seriesCount small) fc (changed (step held c)) refl)
+        let (_, fc) = both (ltb s seriesCount) (commandFits c) (rw h at (entry-fits e are)) in
+        ap stored (record-after book e s c held len h there) ∙ go fc (changed (step held c)) refl
       where
-        go : s < seriesCount → commandFits c ≡ true → (x : Option Series) → changed (step held c) ≡ x
-            → stored (recordAt s (maybe book (λ next. replaced s (bytesOf next) book) x)) ≡ ok (maybe held (λ next. next) x)
-        go l fc none k = there
-        go l fc (some next) k =
+        go : commandFits c ≡ true → (x : Option Series) → changed (step held c) ≡ x → stored (maybe (recordAt s book) bytesOf x) ≡ ok (maybe held (λ next. next) x)
+        go fc none k = there
+        go fc (some next) k =
             let (a, same) = stored-is (recordAt s book) held there in
             let fits = rw same at (read-fits (recordAt s book) bytes a) in
             let sound = rw same at (read-sound (recordAt s book) a) in
-            ap stored (put-back s (bytesOf next) book (length-record next) (omega arith)) ∙ step-leaves held c fits sound fc next k
+            step-leaves held c fits sound fc next k
 
 pub brought : Brought
 brought =

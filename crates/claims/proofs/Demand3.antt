@@ -3,6 +3,7 @@ use mathlib.Core.Path.{_≡_, refl}
 use mathlib.Core.Bool.{Bool, true, false}
 use mathlib.Core.Option.{Option, none, some}
 use Rattle.rules.proofs.Bools.{both}
+use Rattle.rules.proofs.Series.{ledger-empty}
 use Rattle.rules.proofs.Prices.{FairAnswer, opened, used, wait, fair, void, done, refusal, answers-fair}
 use Rattle.rules.specs.Log.{Log, ε, _▹_, if_then_else_, all}
 use Rattle.rules.specs.Bytes.{Bytes, areBytes}
@@ -46,15 +47,11 @@ opened-fair j o e void = tt
 opened-fair j o e done = tt
 opened-fair j o e refusal = tt
 
-unopened : (j : Log Command) → opening j ≡ none → ledger j ≡ empty
-unfolding ledger
-unopened j e = rw e
-
 command-fair : (j : Log Command) (c : Command) → Claim.FairAnswer j (answer (ledger j) c)
 command-fair j c = go (opening j) refl
   where
     go : (x : Option Opening) → opening j ≡ x → Claim.FairAnswer j (answer (ledger j) c)
-    go none e = rw (unopened j e) (empty-fair j c)
+    go none e = rw (ledger-empty j e) (empty-fair j c)
     go (some o) e = opened-fair j o e (answers-fair j c o e)
 
 entry-fair : (l : Log Bytes) (e : Bytes) → all areBytes l ≡ true → areBytes e ≡ true → FairEntry l (entry e) (answered l e)

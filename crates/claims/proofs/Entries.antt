@@ -109,7 +109,7 @@ commands-fit s (l ▹ e) h =
 
 -- ---- one more entry
 
-fits-in-range : (c : Command) → commandFits c ≡ true → inRange c ≡ true
+pub fits-in-range : (c : Command) → commandFits c ≡ true → inRange c ≡ true
 fits-in-range (Open o) h = refl
 fits-in-range (Offer q now) h = every-at (fits (q .price) ∷ fits (q .published) ∷ fits now ∷ []) 0 h
 fits-in-range (Ask now) h = refl

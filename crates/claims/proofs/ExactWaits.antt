@@ -9,14 +9,14 @@ use lib.Dec.{eqb}
 use Rattle.rules.proofs.Asked.{Timed, timed-exact, timed-for-good, refused-always, ask-timed, decision-exact}
 use Rattle.rules.specs.Log.{if_then_else_}
 use Rattle.rules.specs.Bytes.{Bytes, fits}
-use Rattle.rules.specs.Answers.{Answer, Opened, Used, Wait, Settle, Done, Refused}
+use Rattle.rules.specs.Answers.{Answer, Opened, Used, Wait, Settle, Done, Refused, isRefused}
 use Rattle.rules.specs.Exact.{Exact, ForGood}
 use Rattle.rules.specs.Series.{Command, Ask}
 use Rattle.rules.specs.Record.{seriesCount, bookSize, stored}
 use Rattle.rules.specs.Entries.{entry}
 use Rattle.rules.specs.Book.{recordAt, storedAnswer, answerTo, bookAfter}
 use Rattle.rules.specs.Ledger.{commandTo}
-use Rattle.claims.specs.Demand3.{isAsk, isRefused, mayStand}
+use Rattle.claims.specs.Demand3.{isAsk, mayStand}
 use Rattle.claims.specs.ExactWaits.{asks, ExactWaits}
 use Rattle.claims.proofs.Waits.{ask-entry}
 use Rattle.claims.proofs.Kept.{refusal-keeps, others-keep, ask-keeps, length-after}

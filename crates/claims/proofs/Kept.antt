@@ -13,13 +13,13 @@ use borrow.Author.Tests.{ltb-true, ltb-false, eqb-true, eq-eqb}
 use Rattle.rules.proofs.Bools.{both, not-both}
 use Rattle.rules.specs.Log.{if_then_else_, isSome, maybe}
 use Rattle.rules.specs.Bytes.{Bytes}
-use Rattle.rules.specs.Answers.{Result, ok, refused}
+use Rattle.rules.specs.Answers.{Result, ok, refused, isRefused}
 use Rattle.rules.specs.Series.{Command, Series, step, changed}
 use Rattle.rules.specs.Record.{recordSize, seriesCount, bookSize, bytesOf, stored}
 use Rattle.rules.specs.Entries.{Entry, noCommand, command, entry}
 use Rattle.rules.specs.Book.{recordAt, replaced, answerTo, written, afterIn, bookAfter}
 use Rattle.rules.specs.Ledger.{commandTo}
-use Rattle.claims.specs.Demand3.{isAsk, isRefused}
+use Rattle.claims.specs.Demand3.{isAsk}
 use Rattle.claims.specs.OneForm.{RefusalKeeps, OthersKeep}
 use Rattle.claims.proofs.Entries.{holdsOf, entry-series}
 use Rattle.claims.proofs.Book.{length-record}
@@ -74,7 +74,7 @@ module _ (i : ℕ) (r book : Bytes) (size : length r ≡ recordSize) (fit : i * 
   ahead : length (take (i * recordSize) book) ≡ i * recordSize
   ahead = rw (length-take (i * recordSize) book) (omega arith)
 
-  pub put-back : recordAt i (replaced i r book) ≡ r
+  put-back : recordAt i (replaced i r book) ≡ r
   unfolding replaced
   put-back =
       record-back i 0 (take (i * recordSize) book) (r ++ drop (i * recordSize + recordSize) book) (omega (arith, ahead))
@@ -142,3 +142,14 @@ others-keep book e s h =
 
 pub length-after : (book e : Bytes) → length (bookAfter book e) ≡ length book
 length-after book e = after-by (λ b. length b ≡ length book) book e refl (λ i r k size fit. length-put i r book size fit)
+
+-- the own record of a command after it: what it wrote there, or the same
+pub record-after : (book e : Bytes) (s : ℕ) (c : Command) (held : Series) → length book ≡ bookSize → entry e ≡ command s c → stored (recordAt s book) ≡ ok held
+    → recordAt s (bookAfter book e) ≡ maybe (recordAt s book) bytesOf (changed (step held c))
+unfolding bookAfter
+record-after book e s c held len q there =
+    rw (len, q, there) (go (changed (step held c)) (ltb-true s seriesCount (both (ltb s seriesCount) true (rw q at (entry-series e)) .0)))
+  where
+    go : (x : Option Series) → s < seriesCount → recordAt s (maybe book (λ next. replaced s (bytesOf next) book) x) ≡ maybe (recordAt s book) bytesOf x
+    go none l = refl
+    go (some next) l = put-back s (bytesOf next) book (length-record next) (omega arith)

@@ -6,3 +6,4 @@ pub mod OneForm
 pub mod Kept
 pub mod Brought
 pub mod ExactWaits
+pub mod AnyOrder

@@ -10,20 +10,20 @@ use borrow.Author.Tests.{lt-ltb, eqb-true, eq-eqb}
 use Rattle.rules.proofs.Bools.{both, every-at}
 use Rattle.rules.proofs.Integers.{le-refl}
 use Rattle.rules.proofs.Bytes.{bytes-are, little-bytes, signed-word, word-below}
-use Rattle.rules.proofs.Series.{opening-good}
+use Rattle.rules.proofs.Series.{opening-good, ledger-live}
 use Rattle.rules.proofs.Fields.{opening-fits}
 use Rattle.rules.proofs.Waits.{Decides, stays, waits, three-waits}
 use Rattle.rules.specs.Log.{Log, ε, _▹_, if_then_else_, isSome, all}
 use Rattle.rules.specs.Bytes.{Bytes, areBytes, signed, unsignedAt, signedAt, bytes, word, fits}
-use Rattle.rules.specs.Answers.{Result, ok, refused, Answer, Opened, Used, Wait, Settle, Done, Refused, isUsed}
+use Rattle.rules.specs.Answers.{Result, ok, refused, Answer, Opened, Used, Wait, Settle, Done, Refused, isUsed, isRefused}
 use Rattle.rules.specs.Terms.{slots, goodTerms}
 use Rattle.rules.specs.Prints.{Print, accept}
 use Rattle.rules.specs.Taking.{bit, printAnswer}
 use Rattle.rules.specs.Series.{Opening, Command, Open, Offer, Ask, Fix, Withdraw, Holdings, Series, empty, live, fixed, noHoldings, keeps, leaves, decided, offerHeld, offered, fixing, withdrawn, withdrawing, step, Step, answerOf, changed, answer, after}
 use Rattle.rules.specs.Record.{seriesCount, openingFields, openingFits}
 use Rattle.rules.specs.Entries.{Entry, noCommand, command, entry}
-use Rattle.rules.specs.Ledger.{opening, candidates, holdings, Freeze, freeze, takenEvents, ledger, commandTo, commandsTo, ledgers, isOpen, ledgerAnswer}
-use Rattle.claims.specs.Demand3.{answered, askOf, isAsk, isRefused, mayStand, _▹▹_, between, Settles}
+use Rattle.rules.specs.Ledger.{opening, events, candidates, holdings, Freeze, freeze, commandTo, commandsTo, ledgers, isOpen, ledgerAnswer}
+use Rattle.claims.specs.Demand3.{answered, askOf, isAsk, mayStand, _▹▹_, between, Settles}
 use Rattle.claims.proofs.Entries.{commands-fit, seriesAfter, ledgers-more}
 use Rattle.claims.proofs.Book.{answer-is}
 
@@ -174,13 +174,8 @@ module _ (s : ℕ) where
 
     -- ---- an open series
 
-    open-at : (l : Log Bytes) (o : Opening) → opening (commandsTo s l) ≡ some o → freeze (commandsTo s l) ≡ none
-        → ledgers l s ≡ live o (holdings o (takenEvents (commandsTo s l)))
-    unfolding ledgers ledger
-    open-at l o e y = rw (e, y)
-
     pub open-settles : (l : Log Bytes) → all areBytes l ≡ true → isOpen l s ≡ true → (t : ℤ) → fits t ≡ true → Settles s 3 l t
-    unfolding openingFits
+    unfolding openingFits ledgers
     open-settles l h p t f = go (opening j) (freeze j) refl refl p
       where
         j : Log Command
@@ -190,6 +185,6 @@ module _ (s : ℕ) where
         go none z e y p = let c : _≡_ {A = ℕ} 0 1 = cc in let c : ⊥ = omega arith in absurd c
         go (some o) (some z) e y p = let c : _≡_ {A = ℕ} 0 1 = cc in let c : ⊥ = omega arith in absurd c
         go (some o) none e y p =
-            let c = holdings o (takenEvents j) in
+            let c = holdings o (events j) in
             let expiry : fits (o .expiry) ≡ true = every-at (openingFields o) 10 (opening-fits j o (commands-fit s l h) e) in
-            settles l o c 3 t h (open-at l o e y) f (three-waits (o .terms) (o .expiry) (c .candidates) (opening-good j o e) expiry t)
+            settles l o c 3 t h (ledger-live j o e y) f (three-waits (o .terms) (o .expiry) (c .candidates) (opening-good j o e) expiry t)

@@ -8,7 +8,7 @@ use lib.IntN.{ℤ}
 use lib.Signed.{leZ}
 use Rattle.rules.specs.Log.{Log, ε, _▹_}
 use Rattle.rules.specs.Bytes.{Bytes, areBytes, signedBytes, fits}
-use Rattle.rules.specs.Answers.{Method, Answer, Opened, Used, Wait, Settle, Done, Refused, settled}
+use Rattle.rules.specs.Answers.{Method, Answer, Opened, Used, Wait, Settle, Done, Refused, isRefused, settled}
 use Rattle.rules.specs.Series.{Opening, Command, Open, Offer, Ask, Fix, Withdraw}
 use Rattle.rules.specs.Record.{seriesCount}
 use Rattle.rules.specs.Entries.{Entry, noCommand, command, entry}
@@ -58,15 +58,6 @@ isAsk (Offer q now) = false
 isAsk (Ask now) = true
 isAsk (Fix now) = false
 isAsk (Withdraw now i) = false
-
-abbrev pub isRefused : Answer → Bool
-isRefused (Refused r) = true
-isRefused Opened = false
-isRefused (Used s l f) = false
-isRefused (Wait t) = false
-isRefused Done = false
-isRefused (Settle m p n) = false
-isRefused Answer.Void = false
 
 -- an entry that may stand between the asks of series s: no command of s, an ask, or one that is refused; so no accepted withdraw (#103)
 abbrev pub mayStand : Option Command → Answer → Bool

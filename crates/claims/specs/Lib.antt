@@ -2,3 +2,4 @@ pub mod Demand3
 pub mod OneForm
 pub mod Brought
 pub mod ExactWaits
+pub mod AnyOrder

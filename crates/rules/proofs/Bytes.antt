@@ -4,9 +4,9 @@ use mathlib.Core.Path.{_≡_, refl, sym, ap, ap₂, _∙_}
 use mathlib.Core.Bool.{Bool, true, false}
 use mathlib.Core.List.{[], _∷_, _++_}
 use native.Mathlib.Omega.{arith}
-use native.Mathlib.Nat.{add-zero, add-suc, suc-add, pow-suc}
+use native.Mathlib.Nat.{add-zero, add-suc, suc-add, sub-zero, pow-suc}
 use lib.ListN.{length, getD, take, drop, set, replicate, length-take, length-drop}
-use lib.Seq.{sets}
+use lib.Seq.{sets, take-nil}
 use lib.IntN.{ℤ, pos, negsuc}
 use lib.Signed.{mag}
 use lib.Dec.{ltb, eqb}
@@ -35,6 +35,12 @@ pub take-bytes : (n : ℕ) (bs : Bytes) → areBytes bs ≡ true → areBytes (t
 take-bytes zero bs h = refl
 take-bytes (suc n) [] h = refl
 take-bytes (suc n) (b ∷ bs) h = let (x, y) = both (ltb b 256) (areBytes bs) h in rw (x, take-bytes n bs y)
+
+pub drop-take : (m n : ℕ) (l : Bytes) → m ≤ n → drop m (take n l) ≡ take (n - m) (drop m l)
+drop-take zero n l h = rw sub-zero
+drop-take (suc m) zero l h = absurd (omega arith)
+drop-take (suc m) (suc n) [] h = sym (take-nil (suc n - suc m))
+drop-take (suc m) (suc n) (x ∷ l) h = let e : suc n - suc m ≡ n - m = omega arith in rw e (drop-take m n l (omega arith))
 
 pub all-zero : (bs : Bytes) → allZero bs ≡ true → replicate (length bs) 0 ≡ bs
 all-zero [] h = refl

@@ -19,8 +19,14 @@ module _ (o : Opening) where
   beats none p = true
   beats (some q) p = ltZ (q .print .published) (p .print .published)
 
-  unqualified : Log Posting → Bool
+  abbrev pub unqualified : Log Posting → Bool
   unqualified ps = all (λ q. not (qualified o q)) ps
+
+  -- it qualifies, and no print that does is later
+  pub bound : (ps : Log Posting) (q : Posting) → fallback o ps ≡ some q
+      → (qualified o q ≡ true) × (all (λ x. not (qualified o x) || leZ (x .print .published) (q .print .published)) ps ≡ true)
+  unfolding fallback greatest
+  bound ps q e = both (qualified o q) (all (λ x. not (qualified o x) || leZ (x .print .published) (q .print .published)) ps) (first-some (greatest o ps) ps q e)
 
   module _ (ps : Log Posting) (p : Posting) where
     -- a print that doesn't qualify changes nothing
@@ -32,7 +38,7 @@ module _ (o : Opening) where
 
     -- none so far: the first that qualifies is it
     begun : qualified o p ≡ true → unqualified ps ≡ true → fallback o (ps ▹ p) ≡ some p
-    unfolding fallback greatest unqualified
+    unfolding fallback greatest
     begun q u =
         rw (
           first-none (greatest o (ps ▹ p)) ps (all-mono (λ x. not (qualified o x)) (λ x. not (greatest o (ps ▹ p) x)) (λ x n. rw (not-true (qualified o x) n)) ps u),
@@ -42,18 +48,14 @@ module _ (o : Opening) where
         )
 
     module _ (q : Posting) (e : fallback o ps ≡ some q) where
-      bound : (qualified o q ≡ true) × (all (λ x. not (qualified o x) || leZ (x .print .published) (q .print .published)) ps ≡ true)
-      unfolding fallback greatest
-      bound = both (qualified o q) (all (λ x. not (qualified o x) || leZ (x .print .published) (q .print .published)) ps) (first-some (greatest o ps) ps q e)
-
       -- a later one takes its place
       replaced : qualified o p ≡ true → ltZ (q .print .published) (p .print .published) ≡ true → fallback o (ps ▹ p) ≡ some p
       unfolding fallback greatest
       replaced qp l =
           rw (
-            first-none (greatest o (ps ▹ p)) ps (all-mono (λ x. not (qualified o x) || leZ (x .print .published) (q .print .published)) (λ x. not (greatest o (ps ▹ p) x)) (λ x n. lower x (qualified o x) refl n) ps (bound .1)),
+            first-none (greatest o (ps ▹ p)) ps (all-mono (λ x. not (qualified o x) || leZ (x .print .published) (q .print .published)) (λ x. not (greatest o (ps ▹ p) x)) (λ x n. lower x (qualified o x) refl n) ps (bound ps q e .1)),
             qp,
-            all-mono (λ x. not (qualified o x) || leZ (x .print .published) (q .print .published)) (λ x. not (qualified o x) || leZ (x .print .published) (p .print .published)) (λ x n. below x (qualified o x) n) ps (bound .1),
+            all-mono (λ x. not (qualified o x) || leZ (x .print .published) (q .print .published)) (λ x. not (qualified o x) || leZ (x .print .published) (p .print .published)) (λ x n. below x (qualified o x) n) ps (bound ps q e .1),
             le-refl (p .print .published),
           )
         where
@@ -70,7 +72,7 @@ module _ (o : Opening) where
       unfolding fallback greatest
       kept l =
           rw (first-stronger (greatest o ps) (greatest o (ps ▹ p)) weaker ps q e
-          (rw (bound .0, bound .1, lt-false (q .print .published) (p .print .published) l) (or-true (not (qualified o p)))))
+          (rw (bound ps q e .0, bound ps q e .1, lt-false (q .print .published) (p .print .published) l) (or-true (not (qualified o p)))))
         where
           weaker : (x : Posting) → greatest o (ps ▹ p) x ≡ true → greatest o ps x ≡ true
           weaker x g = drop-last (qualified o x) (all (λ y. not (qualified o y) || leZ (y .print .published) (x .print .published)) ps) (not (qualified o p) || leZ (p .print .published) (x .print .published)) g
@@ -90,8 +92,8 @@ module _ (o : Opening) where
           at true l = replaced ps p q e t l
           at false l = kept ps p q e l
 
-  no-fallback : (ps : Log Posting) → fallback o ps ≡ none → unqualified ps ≡ true
-  unfolding unqualified beats
+  pub no-fallback : (ps : Log Posting) → fallback o ps ≡ none → unqualified ps ≡ true
+  unfolding beats
   no-fallback ε e = refl
   no-fallback (ps ▹ p) e =
       go (qualified o p) (fallback o ps) refl (no-fallback ps) (sym (step ps p (fallback o ps) refl (no-fallback ps)) ∙ e)

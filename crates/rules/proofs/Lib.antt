@@ -6,6 +6,11 @@ pub mod Logs
 pub mod Fallback
 pub mod Place
 pub mod Series
+pub mod Feed
+pub mod Posted
+pub mod Outcome
+pub mod AnyOrder
+pub mod Arrival
 pub mod Waits
 pub mod Prices
 pub mod State
@@ -22,6 +27,7 @@ pub mod Leaves
 pub mod Read
 pub mod Asked
 pub mod Examples
+pub mod TwoOrders
 pub mod Edges
 pub mod Decision
 pub mod Voted

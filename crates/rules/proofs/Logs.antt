@@ -11,7 +11,7 @@ use lib.Dec.{eqb}
 use lib.Arith.{lt-of-le-ne}
 use borrow.Author.Tests.{eq-eqb, ne-eqb, eqb-true, eqb-false}
 use Rattle.rules.proofs.Bools.{both, and-false}
-use Rattle.rules.specs.Log.{Log, ε, _▹_, if_then_else_, _orElse_, maybe, size, put, all, first, last, lastAt, map, nth, front, listFrom}
+use Rattle.rules.specs.Log.{Log, ε, _▹_, Among, here, ahead, if_then_else_, _orElse_, maybe, size, put, all, first, last, lastAt, map, nth, front, listFrom}
 
 module _ {A : Type 0} where
   pub all-mono : (P Q : A → Bool) → ((x : A) → P x ≡ true → Q x ≡ true) → (l : Log A) → all P l ≡ true → all Q l ≡ true
@@ -64,6 +64,36 @@ module _ {A : Type 0} where
   pub orElse-none : (a : Option A) → a orElse none ≡ a
   orElse-none none = refl
   orElse-none (some x) = refl
+
+  -- ---- what a log has
+
+  pub among-put : (x : A) (l : Log A) (m : Option A) → Among x l → Among x (put l m)
+  among-put x l none h = h
+  among-put x l (some y) h = ahead h
+
+  pub among-none : (x : A) (l : Log A) → Among x l → l ≡ ε → ⊥
+  among-none x l here e = let z : _≡_ {A = ℕ} 0 1 = cc in omega arith
+  among-none x l (ahead h) e = let z : _≡_ {A = ℕ} 0 1 = cc in omega arith
+
+  -- the last, or one ahead of it
+  pub among-split : (C : Type 0) (l : Log A) (y x : A) → Among x (l ▹ y) → (x ≡ y → C) → (Among x l → C) → C
+  among-split C l y x here f g = f refl
+  among-split C l y x (ahead h) f g = g h
+
+  pub all-among : (P : A → Bool) (l : Log A) (x : A) → Among x l → all P l ≡ true → P x ≡ true
+  all-among P l x (here {l = k}) a = both (all P k) (P x) a .1
+  all-among P l x (ahead {l = k} {y = y} h) a = all-among P k x h (both (all P k) (P y) a .0)
+
+  -- nothing is found only where nothing passes
+  pub none-first : (P : A → Bool) (l : Log A) → first P l ≡ none → all (λ x. not (P x)) l ≡ true
+  none-first P ε e = refl
+  none-first P (l ▹ x) e = go (first P l) (P x) refl e (none-first P l)
+    where
+      go : (a : Option A) (b : Bool) → first P l ≡ a → a orElse (if b then some x else none) ≡ none → (first P l ≡ none → all (λ y. not (P y)) l ≡ true)
+          → all (λ y. not (P y)) l && not b ≡ true
+      go (some y) b d e r = cc
+      go none true d e r = cc
+      go none false d e r = rw (r d)
 
   -- ---- a test that all of a log pass, of what is found in it
 
@@ -164,6 +194,9 @@ module _ {A : Type 0} where
       let m = length-list 0 n f in
       ext-getD d (listFrom 0 n f) xs (omega arith) (λ i l. list-at n f i d (omega arith) ∙ h i (omega arith))
 
+  pub list-ext : (d : A) (n : ℕ) (f g : ℕ → A) → ((i : ℕ) → i < n → f i ≡ g i) → listFrom 0 n f ≡ listFrom 0 n g
+  list-ext d n f g h = list-is d n f (listFrom 0 n g) (length-list 0 n g) (λ i l. h i l ∙ sym (list-at n g i d l))
+
   -- g is f, but for k
   pub list-set : (n k : ℕ) (f g : ℕ → A) (v : A) → k < n → g k ≡ v → ((i : ℕ) → (i ≡ k → ⊥) → g i ≡ f i) → listFrom 0 n g ≡ set (listFrom 0 n f) k v
   list-set n k f g v l e h = list-is v n g (set (listFrom 0 n f) k v) (length-set (listFrom 0 n f) k v ∙ length-list 0 n f) (λ i m. go i m (eqb i k) refl)
@@ -185,3 +218,10 @@ module _ {A B : Type 0} where
   pub all-map : (Q : B → Bool) (f : A → B) (l : Log A) → all (λ x. Q (f x)) l ≡ true → all Q (map f l) ≡ true
   all-map Q f ε h = refl
   all-map Q f (l ▹ x) h = let (a, b) = both (all (λ y. Q (f y)) l) (Q (f x)) h in rw (all-map Q f l a, b)
+
+  pub map-same : {C : Type 0} (f : A → B) (g : B → C) (l k : Log A) → map f l ≡ map f k → map (λ x. g (f x)) l ≡ map (λ x. g (f x)) k
+  map-same {C} f g l k e = sym (twice l) ∙ ap (λ (m : Log B). map g m) e ∙ twice k
+    where
+      twice : (l : Log A) → map g (map f l) ≡ map (λ x. g (f x)) l
+      twice ε = refl
+      twice (l ▹ x) = ap (λ (m : Log C). m ▹ g (f x)) (twice l)

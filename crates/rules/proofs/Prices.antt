@@ -33,6 +33,9 @@ pub data FairAnswer (o : Opening) (es : Log Event) : Answer → Type 0 where
   done : FairAnswer o es Done
   refusal : {r : ℕ} → FairAnswer o es (Refused r)
 
+pub fair-is : {o : Opening} {es : Log Event} {m : Method} {p n : ℕ} → FairAnswer o es (Settle m p n) → FairSettle o es m p n
+fair-is (fair f) = f
+
 -- ---- sums and counts of the slots
 
 total-upTo : (n : ℕ) (h : ℕ → Option Posting) → total (map (λ p. p .print .price) (upTo n h)) ≡ Σ< n (λ i. maybe 0 (λ p. p .print .price) (h i))

@@ -70,22 +70,26 @@ good-positive p g = go (eqb (p .price) 0) (leZ (p .prev) (pos 0)) (ltZ (p .publi
 
 -- ---- before the opening
 
-orElse-none : {A : Type 0} (a b : Option A) → a orElse b ≡ none → a ≡ none
-orElse-none none b e = refl
-orElse-none (some x) b e = e
+pub none-ahead : {A : Type 0} (a b : Option A) → a orElse b ≡ none → a ≡ none
+none-ahead none b e = refl
+none-ahead (some x) b e = e
 
-no-events : (j : Log Command) → opening j ≡ none → events j ≡ ε
+pub ledger-empty : (j : Log Command) → opening j ≡ none → ledger j ≡ empty
+unfolding ledger
+ledger-empty j e = rw e
+
+pub no-events : (j : Log Command) → opening j ≡ none → events j ≡ ε
 unfolding opening events
 no-events ε e = refl
 no-events (j ▹ c) e =
-    let h : opening j ≡ none = orElse-none (opening j) (goodOpen c) e in
+    let h : opening j ≡ none = none-ahead (opening j) (goodOpen c) e in
     rw (no-events j h, h)
 
 pub no-freeze : (j : Log Command) → opening j ≡ none → freeze j ≡ none
 unfolding opening freeze
 no-freeze ε e = refl
 no-freeze (j ▹ c) e =
-    let h : opening j ≡ none = orElse-none (opening j) (goodOpen c) e in
+    let h : opening j ≡ none = none-ahead (opening j) (goodOpen c) e in
     rw (no-freeze j h) (go c h)
   where
     go : (c : Command) → opening j ≡ none → freezes j c ≡ none
@@ -111,6 +115,12 @@ opening-good (j ▹ c) o e = go (opening j) c refl e (opening-good j o)
     go none (Ask now) d e r = cc
     go none (Fix now) d e r = cc
     go none (Withdraw now i) d e r = cc
+
+-- ---- while it is open
+
+pub ledger-live : (j : Log Command) (o : Opening) → opening j ≡ some o → freeze j ≡ none → ledger j ≡ live o (holdings o (events j))
+unfolding ledger takenEvents
+ledger-live j o e f = rw (e, f)
 
 -- ---- a test that every event of these commands passes
 

@@ -75,6 +75,15 @@ isUsed Answer.Void = false
 isUsed Answer.Done = false
 isUsed (Answer.Refused r) = false
 
+abbrev pub isRefused : Answer → Bool
+isRefused Answer.Opened = false
+isRefused (Answer.Used s l f) = false
+isRefused (Answer.Wait t) = false
+isRefused (Answer.Settle m p n) = false
+isRefused Answer.Void = false
+isRefused Answer.Done = false
+isRefused (Answer.Refused r) = true
+
 -- Settle, Void or refusal 0: what an open series answers an ask for good, after its Waits
 abbrev pub settled : Answer → Bool
 settled Answer.Opened = false

@@ -49,7 +49,10 @@ afterIn book (command s c) = written s book (stored (recordAt s book)) c
 unfoldable pub bookAfter : Bytes → Bytes → Bytes
 bookAfter book e = if eqb (length book) bookSize then afterIn book (entry e) else book
 
--- the entries of a list given in turn to one zeroed book
+-- the entries of a list given in turn to one book, and to a zeroed one
+abbrev pub runOn : Bytes → Log Bytes → Bytes
+runOn book ε = book
+runOn book (l ▹ e) = bookAfter (runOn book l) e
+
 abbrev pub run : Log Bytes → Bytes
-run ε = zeros bookSize
-run (l ▹ e) = bookAfter (run l) e
+run l = runOn (zeros bookSize) l

@@ -14,5 +14,6 @@ pub mod Record
 pub mod Entries
 pub mod Book
 pub mod Ledger
+pub mod Feed
 pub mod Lines
 pub mod Journal

@@ -40,6 +40,11 @@ pub data Log (A : Type 0) : Type 0 where
   ε : Log A
   _▹_ : Log A → A → Log A
 
+-- x is one of the log
+pub data Among {A : Type 0} (x : A) : Log A → Type 0 where
+  here : {l : Log A} → Among x (l ▹ x)
+  ahead : {l : Log A} {y : A} → Among x l → Among x (l ▹ y)
+
 module _ {A : Type 0} where
   abbrev pub size : Log A → ℕ
   size ε = 0

@@ -14,7 +14,7 @@ use Rattle.journal.proofs.Given.{Feeds}
 use Rattle.journal.proofs.Fits.{fed-taken, fed-written, fed-left}
 use Rattle.journal.proofs.Parts.{front, fed-reads}
 use Rattle.sheet.specs.Holds.{Holds}
-use Rattle.sheet.proofs.Moves.{drop-take}
+use Rattle.rules.proofs.Bytes.{drop-take}
 
 module _ (last : Bool) (book part out : Bytes) (end : ℕ) (inside : end ≤ length part) where
   count : length (take end part) ≡ end

@@ -1,12 +1,11 @@
 -- Bytes moved to the front of a buffer.
-use Prim.Native.Nat.{ℕ, zero, suc, _+_, _-_, _≤_, _<_}
+use Prim.Native.Nat.{ℕ, _+_, _-_, _≤_, _<_}
 use mathlib.Core.Path.{_≡_, sym, ap, _∙_}
 use mathlib.Core.List.{[], _∷_, _++_}
 use native.Mathlib.Omega.{arith}
-use native.Mathlib.Nat.{sub-zero}
 use native.Mathlib.Numerals.{add-one}
 use lib.ListN.{length, take, drop, getD, set, length-drop}
-use lib.Seq.{sets, sets-eq, take-suc, getD-drop, getD-append-add, length-take-le, take-nil}
+use lib.Seq.{sets, sets-eq, take-suc, getD-drop, getD-append-add, length-take-le}
 use Rattle.rules.specs.Bytes.{Bytes}
 use Rattle.rules.proofs.Bytes.{sets-append}
 
@@ -34,9 +33,3 @@ module _ (l : Bytes) (from i : ℕ) (inside : from + i < length l) where
       rw (e, b, add-one)
       (ap (λ (k : ℕ). set (sets l 0 xs) k v) m ∙ sets-append xs (v ∷ []) l 0
       ∙ ap (sets l 0) (sym (take-suc (drop from l) i 0 (omega (arith, length-drop from l)))))
-
-pub drop-take : (m n : ℕ) (l : Bytes) → m ≤ n → drop m (take n l) ≡ take (n - m) (drop m l)
-drop-take zero n l h = rw sub-zero
-drop-take (suc m) zero l h = absurd (omega arith)
-drop-take (suc m) (suc n) [] h = sym (take-nil (suc n - suc m))
-drop-take (suc m) (suc n) (x ∷ l) h = let e : suc n - suc m ≡ n - m = omega arith in rw e (drop-take m n l (omega arith))

@@ -123,4 +123,10 @@ fn main() {
     example(b"withdraw", b"withdraw.journal", b"withdraw.sheet");
     example(b"voted", b"voted.journal", b"voted.sheet");
     example(b"scheduled", b"scheduled.journal", b"scheduled.sheet");
+    example(
+        b"posted_in_order",
+        b"posted_in_order.journal",
+        b"posted_in_order.sheet",
+    );
+    example(b"posted_late", b"posted_late.journal", b"posted_late.sheet");
 }
