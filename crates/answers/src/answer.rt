@@ -11,7 +11,7 @@ use core_take::take::PrintUse;
 use core_terms::error::CoreError;
 use core_terms::units::StrikeUsd;
 
-#[derive(Drop)]
+#[derive(Clone, Copy)]
 pub enum Answer {
     Opened,
     Used(PrintUse),

@@ -1,2 +1,4 @@
 // A look at a series: its own bytes of the book. Whoever holds a book may call it; it writes nothing.
+#![tactic(auto)]
+
 pub mod look;

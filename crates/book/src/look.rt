@@ -19,7 +19,7 @@ pub const SERIES_COUNT: u8 = 64;
 // The bytes of a book.
 pub const BOOK_SIZE: usize = 29_184;
 
-#[derive(Drop)]
+#[derive(Clone, Copy)]
 pub enum LookResult {
     Ok,
     Refused(u8),

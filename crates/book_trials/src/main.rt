@@ -1,6 +1,8 @@
 // Replays recorded journals of the Rust book, from standard input (trials/README.md has the
 // format), and prints how many answers there are of each kind, and how many of the answers and of
 // the books at the end differ from what was recorded.
+#![tactic(auto)]
+
 mod input;
 mod journal;
 mod recorded;

@@ -12,7 +12,7 @@ use core_terms::params::OracleParams;
 use core_terms::units::UnixTimestamp;
 use fields::read::{i8_at, i32_at, i64_at, u8_at, u16_at, u32_at, u64_at};
 
-#[derive(Drop)]
+#[derive(Clone, Copy)]
 pub enum Entry {
     NoCommand(u8),
     Open {
@@ -41,7 +41,7 @@ pub enum Entry {
     },
 }
 
-#[derive(Drop)]
+#[derive(Clone, Copy)]
 enum SeriesResult {
     Ok(u8),
     Refused(u8),

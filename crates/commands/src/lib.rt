@@ -1,4 +1,6 @@
 // An entry of any bytes, read as a command and given to a book. Whoever holds a book and entries may
 // call it.
+#![tactic(auto)]
+
 pub mod apply;
 pub mod command;

@@ -15,7 +15,7 @@ use core_terms::error::CoreError;
 use core_terms::params::OracleParams;
 use core_terms::units::{StrikeUsd, UnixTimestamp};
 
-#[derive(Drop)]
+#[derive(Clone, Copy)]
 pub enum SettleMethod {
     Window,
     NextPrint,
@@ -25,7 +25,7 @@ pub enum SettleMethod {
     Void,
 }
 
-#[derive(Drop)]
+#[derive(Clone, Copy)]
 pub enum MethodResult {
     Ok(SettleMethod),
     Err(CoreError),
@@ -60,7 +60,7 @@ impl SettleMethod {
     }
 }
 
-#[derive(Drop)]
+#[derive(Clone, Copy)]
 pub enum Decision {
     Settle {
         method: SettleMethod,
@@ -73,7 +73,7 @@ pub enum Decision {
     },
 }
 
-#[derive(Drop)]
+#[derive(Clone, Copy)]
 pub enum DecisionResult {
     Ok(Decision),
     Err(CoreError),
@@ -81,14 +81,14 @@ pub enum DecisionResult {
 
 // Which of the two partial steps comes first: of old the chain's, by the members' vote the window's
 // where it has more prints, else the chain's (#109).
-#[derive(Drop)]
+#[derive(Clone, Copy)]
 pub enum Order {
     Old,
     Voted,
 }
 
 // Whether a time has come.
-#[derive(Drop)]
+#[derive(Clone, Copy)]
 enum Due {
     Now,
     Wait(i64),
@@ -142,7 +142,7 @@ fn settle_from(
 }
 
 // A sum of at most five prices, high * 2^64 + low (#108).
-#[derive(Drop)]
+#[derive(Clone, Copy)]
 struct Narrow {
     high: u8,
     low: u64,

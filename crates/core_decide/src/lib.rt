@@ -1,2 +1,4 @@
 // The core's decision. It checks terms and state first; any crate may call it.
+#![tactic(auto)]
+
 pub mod decide;

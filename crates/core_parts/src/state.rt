@@ -12,7 +12,7 @@ use core_terms::params::{MAX_NEXT_PRINTS, MAX_SLOTS, OracleParams};
 
 // The candidates of one series in their stored form, untrusted until `in_range` is asked. The
 // 128-bit sum of the slots' prices stands in two halves.
-#[derive(Drop)]
+#[derive(Clone, Copy)]
 pub struct SettlementParts {
     pub sample_sum_low: u64,
     pub sample_sum_high: u64,

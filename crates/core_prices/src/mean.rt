@@ -9,7 +9,7 @@ use core_terms::error::CoreError;
 use core_terms::params::{MAX_EXPO, MIN_EXPO};
 use core_terms::units::StrikeUsd;
 
-#[derive(Drop)]
+#[derive(Clone, Copy)]
 pub enum PriceResult {
     Ok(StrikeUsd),
     Err(CoreError),

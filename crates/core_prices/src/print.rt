@@ -5,7 +5,7 @@ ghost use Rattle.core_prices.specs.Prints.{print_of, print_at, print_result_of, 
 
 use core_terms::error::CoreError;
 
-#[derive(Drop)]
+#[derive(Clone, Copy)]
 pub struct Print {
     pub price: u64,
     pub publish_time: i64,
@@ -13,7 +13,7 @@ pub struct Print {
 }
 
 // What acceptance is given.
-#[derive(Drop)]
+#[derive(Clone, Copy)]
 pub struct Quote {
     pub price: i64,
     pub conf: u64,
@@ -22,7 +22,7 @@ pub struct Quote {
     pub prev_publish_time: i64,
 }
 
-#[derive(Drop)]
+#[derive(Clone, Copy)]
 pub enum PrintResult {
     Ok(Print),
     Err(CoreError),

@@ -25,21 +25,21 @@ use core_uses::uses::{
 use numbers::wide::{Sum, Wide};
 
 // What a print was used for.
-#[derive(Drop)]
+#[derive(Clone, Copy)]
 pub struct PrintUse {
     pub slot: Index,
     pub next_print: Index,
     pub fallback: bool,
 }
 
-#[derive(Drop)]
+#[derive(Clone, Copy)]
 pub enum PrintUseResult {
     Ok(PrintUse),
     Err(CoreError),
 }
 
 // The answer, and beside it the state, which holds arrays.
-#[derive(Drop)]
+#[derive(Clone, Copy)]
 pub struct Added {
     pub result: PrintUseResult,
     pub state: SettlementParts,

@@ -2,7 +2,7 @@
 ghost use Rattle.std.specs.Prelude.{◌≡◌};
 ghost use Rattle.core_terms.specs.Errors.{number_of};
 
-#[derive(Drop)]
+#[derive(Clone, Copy)]
 pub enum CoreError {
     Overflow,
     InvalidDiscriminant,

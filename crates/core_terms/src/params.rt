@@ -17,7 +17,7 @@ pub const MIN_EXPO: i8 = -12;
 
 pub const MAX_EXPO: i8 = 0;
 
-#[derive(Drop)]
+#[derive(Clone, Copy)]
 pub struct OracleParams {
     pub window_s: u32,
     pub slot_s: u32,
@@ -30,7 +30,7 @@ pub struct OracleParams {
     pub expo: i8,
 }
 
-#[derive(Drop)]
+#[derive(Clone, Copy)]
 pub enum ParamsResult {
     Ok(OracleParams),
     Err(CoreError),

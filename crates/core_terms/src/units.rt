@@ -2,7 +2,7 @@
 ghost use Rattle.std.specs.Prelude.{◌≡◌};
 
 // A price in USDC atoms per troy ounce.
-#[derive(Drop)]
+#[derive(Clone, Copy)]
 pub struct StrikeUsd(u64);
 
 impl StrikeUsd {
@@ -20,7 +20,7 @@ impl StrikeUsd {
 }
 
 // Seconds since the Unix epoch.
-#[derive(Drop)]
+#[derive(Clone, Copy)]
 pub struct UnixTimestamp(i64);
 
 impl UnixTimestamp {

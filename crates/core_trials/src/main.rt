@@ -1,5 +1,7 @@
 // Replays recorded answers of the Rust core, from standard input (trials/README.md has the format),
 // and prints for each call how many there are and how many the core answers otherwise.
+#![tactic(auto)]
+
 ghost use Rattle.std.specs.Prelude.{◌≤◌};
 
 mod given;

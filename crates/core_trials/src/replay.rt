@@ -128,7 +128,7 @@ fn is_added(b: &[u8], p: OracleParams, s: SettlementState) -> bool {
 // ---- the decision
 
 // The numbers of an answer.
-#[derive(Drop)]
+#[derive(Clone, Copy)]
 struct Outcome {
     code: u8,
     number: u8,

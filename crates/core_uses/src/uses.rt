@@ -8,19 +8,19 @@ use core_terms::error::CoreError;
 use numbers::time::{Gap, Time};
 
 // A place, or none.
-#[derive(Drop)]
+#[derive(Clone, Copy)]
 pub enum Index {
     At(u8),
     None,
 }
 
-#[derive(Drop)]
+#[derive(Clone, Copy)]
 pub enum SlotResult {
     Ok(Index),
     Err(CoreError),
 }
 
-#[derive(Drop)]
+#[derive(Clone, Copy)]
 pub enum FallbackResult {
     Ok(bool),
     Err(CoreError),

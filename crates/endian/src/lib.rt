@@ -1,5 +1,7 @@
 // Numbers in bytes: little-endian, signed ones in two's complement.
 // Every function is total: any crate may call it.
+#![tactic(auto)]
+
 ghost use Rattle.std.specs.Prelude.{◌≡◌, ◌+◌, ◌*◌, ◌^◌, ◌<◌};
 ghost use Rattle.rules.specs.Bytes.{little, signed, bytes, word};
 

@@ -1,5 +1,7 @@
 // Entries for C and Rust, on numbers and byte slices. A refusal is its number; of the mean and of
 // acceptance, 255 says that there is none.
+#![tactic(auto)]
+
 ghost use Rattle.std.specs.Prelude.{◌≡◌, ◌+◌, ◌*◌, ◌^◌};
 ghost use Rattle.rules.specs.Mean.{mean};
 ghost use Rattle.rules.specs.Prints.{accept};

@@ -13,7 +13,7 @@ use lines::line::{LINE_MAX, write_line};
 
 // How many bytes of the part were taken and how many of lines written, and whether an entry of one
 // byte was given, after which the journal has no other.
-#[derive(Drop)]
+#[derive(Clone, Copy)]
 pub struct Fed {
     pub taken: usize,
     pub written: usize,

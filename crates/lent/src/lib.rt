@@ -1,4 +1,6 @@
 // The entry that lends the state, as the Rust's `add_print(&mut self, ..)` does.
+#![tactic(auto)]
+
 ghost use Rattle.std.specs.Prelude.{◌≡◌};
 ghost use Rattle.rules.specs.State.{add_print_call, add_print_state};
 ghost use Rattle.core_terms.specs.Params.{terms_of};

@@ -3,7 +3,7 @@ ghost use Rattle.std.specs.Prelude.{◌≡◌, pos, ◌+ℤ◌, ◌-ℤ◌};
 ghost use Rattle.rules.specs.Decision.{max_z};
 ghost use Rattle.numbers.specs.Times.{time_of, gap_of};
 
-#[derive(Drop)]
+#[derive(Clone, Copy)]
 pub enum Time {
     At(i64),
     Overflow,
@@ -39,7 +39,7 @@ pub fn later(a: i64, b: i64) -> i64
 }
 
 // How far `to` lies ahead of `from`: it may be as much as 2^64 - 1.
-#[derive(Drop)]
+#[derive(Clone, Copy)]
 pub enum Gap {
     Of(u64),
     Behind,

@@ -2,13 +2,13 @@
 ghost use Rattle.std.specs.Prelude.{◌≡◌};
 ghost use Rattle.numbers.specs.Wides.{sum_of};
 
-#[derive(Drop)]
+#[derive(Clone, Copy)]
 pub struct Wide {
     pub high: u64,
     pub low: u64,
 }
 
-#[derive(Drop)]
+#[derive(Clone, Copy)]
 pub enum Sum {
     Of(Wide),
     Overflow,

@@ -12,7 +12,7 @@ use core_terms::units::UnixTimestamp;
 use fields::read::{i8_at, i64_at, u8_at, u16_at, u32_at, u64_at};
 
 // What a record holds beside its outcome.
-#[derive(Drop)]
+#[derive(Clone, Copy)]
 pub struct Contents {
     pub params: OracleParams,
     pub max_conf_bps: u16,

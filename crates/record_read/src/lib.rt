@@ -1,3 +1,5 @@
 // The codecs of a record: what stands in its bytes, acceptable or not. Any crate may call it.
+#![tactic(auto)]
+
 pub mod contents;
 pub mod outcome;

@@ -15,7 +15,7 @@ use record_holdings::holdings::holdings_stand;
 
 // What a record is found to be. Of an open one, the terms are still to be tested, and the candidates
 // by `restore`'s test: the core's calls do that, and their 12 or 11 is the book's 11.
-#[derive(Drop)]
+#[derive(Clone, Copy)]
 pub enum Status {
     Empty,
     Untested,

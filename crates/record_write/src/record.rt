@@ -14,7 +14,7 @@ use core_parts::state::SettlementParts;
 use core_terms::params::OracleParams;
 
 // The fields of a record beside its opening and its candidates.
-#[derive(Drop)]
+#[derive(Clone, Copy)]
 pub struct Outcome {
     pub tag: u8,
     pub samples: u16,

@@ -1,4 +1,6 @@
 // A whole list of entries, given to one zeroed book.
+#![tactic(auto)]
+
 ghost use Rattle.std.specs.Prelude.{◌≡◌, min, eqb, length};
 ghost use Rattle.std.proofs.Math.Option.{some};
 ghost use Rattle.rules.specs.Log.{if◌then◌else◌};
@@ -16,7 +18,7 @@ use book::look::BOOK_SIZE;
 use commands::apply::apply;
 
 // What the last entry was answered; an empty list has none.
-#[derive(Drop)]
+#[derive(Clone, Copy)]
 pub enum Replayed {
     Nothing,
     Answered(Answer),

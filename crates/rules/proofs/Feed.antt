@@ -26,10 +26,13 @@ feed_prev l p q f =
 
 -- what comes ahead of q was published by q's prev
 feed_before : (l : Log Quote) (q x : Quote) → is_feed (l ▹ q) ≡ true → Among x l → le_z x.published q.prev ≡ true
-feed_before l q x f (here {l = k}) = feed_prev k x q f
-feed_before l q x f (ahead {l = k} {y = p} h) =
-    let i = feed_init (k ▹ p) q f in
-    le_trans x.published p.prev q.prev (feed_before k p x i h) (le_trans p.prev p.published q.prev (feed_own k p i) (feed_prev k p q f))
+feed_before l q x f h = go x l h q f
+  where
+    go : (x : Quote) (l : Log Quote) → Among x l → (q : Quote) → is_feed (l ▹ q) ≡ true → le_z x.published q.prev ≡ true
+    go x l (here {l = k}) q f = feed_prev k x q f
+    go x l (ahead {l = k} {y = p} h) q f =
+        let i = feed_init (k ▹ p) q f in
+        le_trans x.published p.prev q.prev (go x k h p i) (le_trans p.prev p.published q.prev (feed_own k p i) (feed_prev k p q f))
 
 module _ (b : ℤ) where
   -- prev is before b, and pub is not
@@ -40,7 +43,10 @@ module _ (b : ℤ) where
   two_over l q x f h s t = omega (arith, le_yes x.published q.prev (feed_before l q x f h), le_yes b x.published s.1, lt_yes q.prev b t.0)
 
   pub one_over : (l : Log Quote) (x y : Quote) → is_feed l ≡ true → Among x l → Among y l → Over x.prev x.published → Over y.prev y.published → x ≡ y
-  one_over l x y f (here {l = k}) h s t = among_split (x ≡ y) k x y h (λ e. sym e) (λ h. absurd (two_over k x y f h t s))
-  one_over l x y f (ahead {l = k} {y = z} g) h s t =
-      let r : Among y k → x ≡ y = λ h. one_over k x y (feed_init k z f) g h s t in
-      among_split (x ≡ y) k z y h (λ e. absurd (two_over k z x f g s (rw e at t))) r
+  one_over l x y f g h s t = go x l g f h s
+    where
+      go : (x : Quote) (l : Log Quote) → Among x l → is_feed l ≡ true → Among y l → Over x.prev x.published → x ≡ y
+      go x l (here {l = k}) f h s = among_split (x ≡ y) k x y h (λ e. sym e) (λ h. absurd (two_over k x y f h t s))
+      go x l (ahead {l = k} {y = z} g) f h s =
+          let r : Among y k → x ≡ y = λ h. go x k g (feed_init k z f) h s in
+          among_split (x ≡ y) k z y h (λ e. absurd (two_over k z x f g s (rw e at t))) r

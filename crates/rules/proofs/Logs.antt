@@ -81,8 +81,11 @@ module _ {A : Type 0} where
   among_split C l y x (ahead h) f g = g h
 
   pub all_among : (P : A → Bool) (l : Log A) (x : A) → Among x l → all P l ≡ true → P x ≡ true
-  all_among P l x (here {l = k}) a = (both (all P k) (P x) a).1
-  all_among P l x (ahead {l = k} {y = y} h) a = all_among P k x h (both (all P k) (P y) a).0
+  all_among P l x h a = go x l h a
+    where
+      go : (x : A) (l : Log A) → Among x l → all P l ≡ true → P x ≡ true
+      go x l (here {l = k}) a = (both (all P k) (P x) a).1
+      go x l (ahead {l = k} {y = y} h) a = go x k h (both (all P k) (P y) a).0
 
   -- nothing is found only where nothing passes
   pub none_first : (P : A → Bool) (l : Log A) → first P l ≡ none → all (λ x. not (P x)) l ≡ true

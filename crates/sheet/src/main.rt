@@ -1,5 +1,7 @@
 // Reads a journal from standard input, gives its commands to a zeroed book, and writes the line of
 // each answer to standard output.
+#![tactic(auto)]
+
 ghost use Rattle.std.specs.Prelude.{◌+◌, ◌-◌, ◌≤◌, ◌<◌, ◌≡◌, false, length, take, drop};
 ghost use Rattle.std.proofs.lemmas.List.Edits.{sets};
 ghost use Rattle.rules.specs.Bytes.{zeros};
@@ -24,7 +26,7 @@ fn lines_buffer() -> [u8; LINES]
 
 // What a part of the journal leaves: the bytes of its lines, the bytes at its front that wait for
 // the rest of their command, and whether the journal has ended.
-#[derive(Drop)]
+#[derive(Clone, Copy)]
 struct Left {
     written: usize,
     held: usize,
@@ -33,7 +35,7 @@ struct Left {
 
 // Whether to go on: `held` bytes of an unfinished command stand at the front of part, and `read`
 // bytes of the journal were read. Else the journal has ended, or a read or a write failed.
-#[derive(Drop)]
+#[derive(Clone, Copy)]
 enum Next {
     On { held: usize, read: u64 },
     Ended,

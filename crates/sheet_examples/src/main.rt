@@ -1,5 +1,7 @@
 // Compares the sheet of each example journal with the sheet that stands beside it in data/, and
 // prints how many lines are the same.
+#![tactic(auto)]
+
 ghost use Rattle.io.specs.Counts.{IsPrefixLen};
 
 use journal::sheet::write_sheet;

@@ -11,19 +11,19 @@ pub use core_parts::state::SettlementParts;
 use core_terms::error::CoreError;
 use core_terms::params::OracleParams;
 
-#[derive(Drop)]
+#[derive(Clone, Copy)]
 pub struct SettlementState {
     pub parts: SettlementParts,
 }
 
-#[derive(Drop)]
+#[derive(Clone, Copy)]
 pub enum Check {
     Ok,
     Err(CoreError),
 }
 
 // The answer, and beside it the state, which holds arrays.
-#[derive(Drop)]
+#[derive(Clone, Copy)]
 pub struct Restored {
     pub result: Check,
     pub state: SettlementState,

@@ -13,7 +13,7 @@ use core_terms::params::OracleParams;
 use core_terms::units::UnixTimestamp;
 
 // The answer, and beside it the state, which holds arrays.
-#[derive(Drop)]
+#[derive(Clone, Copy)]
 pub struct Added {
     pub result: PrintUseResult,
     pub state: SettlementState,
