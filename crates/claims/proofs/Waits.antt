@@ -162,15 +162,19 @@ module _ (s : ℕ) where
     -- what the decision gives, the list gives
     settles : (l : Log Bytes) (o : Opening) (c : Holdings) (n : ℕ) (t : ℤ) → all are_bytes l ≡ true → ledgers l s ≡ live o c → fits t ≡ true
         → Decides (decided o c.candidates) n t → Settles s n l t
-    settles l o c n t h e f (stays a good later) =
-        Settles.stays a good
-        (λ m k u fu le. let (b, r) = between_kept l m h k in ask_answered (l ▹▹ m) o c u b (r ∙ e) fu ∙ later u le)
-    settles l o c (suc n) t h e f (waits until fu ahead w d) =
-        Settles.waits until fu (ask_answered l o c t h e f ∙ w t (le_refl t) ahead)
-        (λ m k.
-        let next = l ▹ ask_of s t in
-        let (b, r) = between_kept next m (rw (h, ask_bytes s t small)) k in
-        settles (next ▹▹ m) o c n until b (r ∙ ask_stands l t h f ∙ e) fu d)
+    settles l o c n t h e f d = go o c n t d l h e f
+      where
+        go : (o : Opening) (c : Holdings) (n : ℕ) (t : ℤ) → Decides (decided o c.candidates) n t
+            → (l : Log Bytes) → all are_bytes l ≡ true → ledgers l s ≡ live o c → fits t ≡ true → Settles s n l t
+        go o c n t (stays a good later) l h e f =
+            Settles.stays a good
+            (λ m k u fu le. let (b, r) = between_kept l m h k in ask_answered (l ▹▹ m) o c u b (r ∙ e) fu ∙ later u le)
+        go o c (suc n) t (waits until fu ahead w d) l h e f =
+            Settles.waits until fu (ask_answered l o c t h e f ∙ w t (le_refl t) ahead)
+            (λ m k.
+            let next = l ▹ ask_of s t in
+            let (b, r) = between_kept next m (rw (h, ask_bytes s t small)) k in
+            go o c n until d (next ▹▹ m) b (r ∙ ask_stands l t h f ∙ e) fu)
 
     -- ---- an open series
 

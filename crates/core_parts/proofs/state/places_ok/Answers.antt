@@ -1,0 +1,22 @@
+use Prim.Native.Nat.{◌-◌}
+use mathlib.Core.Path.{refl, sym}
+use native.Mathlib.Omega.{arith}
+use Rattle.core_parts.specs.States.{link_place, all_places}
+use Rattle.core_parts.proofs.Places.{passed, failed, all_more, all_fails}
+use Rattle.core_parts.proofs.state.places_ok.Goals as goal
+
+pub loop-i-init : goal.loop-i-init
+unfolding all_places
+loop-i-init c = (omega arith, refl)
+
+pub returns-then-not-place_ok : goal.returns-then-not-place_ok
+returns-then-not-place_ok c =
+    let l = c.before.before.before in
+    let a = l.before.args in
+    sym (all_fails (link_place a.times a.prices a.len) 5 l.loop.i (omega arith) (failed c.Place-ok.ensures c.if-not-place_ok.true-raw))
+
+pub loop-i-preserved : goal.loop-i-preserved
+loop-i-preserved c =
+    let l = c.before.before.before in
+    let a = l.before.args in
+    (omega arith, all_more (link_place a.times a.prices a.len) l.loop.i l.loop.invariant.1 (passed c.Place-ok.ensures c.if-not-place_ok.false-raw))
