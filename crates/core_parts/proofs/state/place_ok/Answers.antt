@@ -12,47 +12,41 @@ use Rattle.core_parts.specs.States.{link_place}
 use Rattle.numbers.proofs.Ranges.{zero_64}
 use Rattle.core_parts.proofs.state.place_ok.Goals as goal
 
-time_fits : (c : goal.After-time-1) → SFits w64 (get_or c.args.t1 c.args.i (pos 0))
-time_fits c = search rules
-
-last_fits : (c : goal.After-last-1) → SFits w64 (get_or c.args.t1 (c.args.i - 1) (pos 0))
-last_fits c = search rules
-
 pub returns-then-price-eq0 : goal.returns-then-price-eq0
 unfolding link_place
 returns-then-price-eq0 c =
     let a = c.args in
-    let g : get_or a.t2 a.i 0 ≤ 0 = omega (arith, c.if-price-eq0.true) in
-    simp (lt-ltb a.i a.len c.if-i-len.true, le-ltb 0 (get_or a.t2 a.i 0) g)
+    let g : get_or a.prices a.i 0 ≤ 0 = omega (arith, c.if-price-eq0.true) in
+    simp (lt-ltb a.i a.len c.if-i-len.true, le-ltb 0 (get_or a.prices a.i 0) g)
 
 pub returns-then-i-eq0 : goal.returns-then-i-eq0
 unfolding link_place
 returns-then-i-eq0 c =
     let a = c.args in
-    let g : 0 < get_or a.t2 a.i 0 = omega (arith, c.if-price-eq0.false) in
-    simp (lt-ltb a.i a.len c.if-i-len.true, lt-ltb 0 (get_or a.t2 a.i 0) g, eq-eqb a.i 0 c.if-i-eq0.true)
+    let g : 0 < get_or a.prices a.i 0 = omega (arith, c.if-price-eq0.false) in
+    simp (lt-ltb a.i a.len c.if-i-len.true, lt-ltb 0 (get_or a.prices a.i 0) g, eq-eqb a.i 0 c.if-i-eq0.true)
 
 pub returns-then-i-len : goal.returns-then-i-len
 unfolding link_place
 returns-then-i-len c =
     let a = c.args in
-    let g : 0 < get_or a.t2 a.i 0 = omega (arith, c.if-price-eq0.false) in
-    let f = time_fits c.before.before.before.before in
-    let l = last_fits c in
-    simp (lt-ltb a.i a.len c.if-i-len.true, lt-ltb 0 (get_or a.t2 a.i 0) g, ne_eqb a.i 0 c.if-i-eq0.false, to_z-of_z)
+    let g : 0 < get_or a.prices a.i 0 = omega (arith, c.if-price-eq0.false) in
+    let f = (let h : SFits w64 (get_or c.args.times c.args.i (pos 0)) = search rules in h) in
+    let l = (let h : SFits w64 (get_or c.args.times (c.args.i - 1) (pos 0)) = search rules in h) in
+    simp (lt-ltb a.i a.len c.if-i-len.true, lt-ltb 0 (get_or a.prices a.i 0) g, ne_eqb a.i 0 c.if-i-eq0.false, to_z-of_z)
 
 pub returns-then-time-ne0 : goal.returns-then-time-ne0
 unfolding link_place
 returns-then-time-ne0 c =
     let a = c.args in
-    let z = get_or a.t1 a.i (pos 0) in
-    let f = time_fits c.before.before in
+    let z = get_or a.times a.i (pos 0) in
+    let f = (let h : SFits w64 (get_or c.args.times c.args.i (pos 0)) = search rules in h) in
     simp (le-ltb a.i a.len c.if-i-len.false, sym (zero_64 z f) ∙ ne_eqb (of_z w64 z) 0 c.if-time-ne0.true)
 
 pub returns : goal.returns
 unfolding link_place
 returns c =
     let a = c.args in
-    let z = get_or a.t1 a.i (pos 0) in
-    let f = time_fits c.before.before in
+    let z = get_or a.times a.i (pos 0) in
+    let f = (let h : SFits w64 (get_or c.args.times c.args.i (pos 0)) = search rules in h) in
     simp (le-ltb a.i a.len c.if-i-len.false, sym (zero_64 z f) ∙ eq-eqb (of_z w64 z) 0 c.if-time-ne0.false)

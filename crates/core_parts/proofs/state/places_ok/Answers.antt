@@ -11,12 +11,10 @@ loop-i-init c = (omega arith, refl)
 
 pub returns-then-not-place_ok : goal.returns-then-not-place_ok
 returns-then-not-place_ok c =
-    let l = c.before.before.before in
-    let a = l.before.args in
-    sym (all_fails (link_place a.times a.prices a.len) 5 l.loop.i (omega arith) (failed c.Place-ok.ensures c.if-not-place_ok.true-raw))
+    let a = c.args in
+    sym (all_fails (link_place a.times a.prices a.len) 5 c.loop-i.i (omega arith) (failed c.place_ok.ensures c.if-not-place_ok.true-raw))
 
 pub loop-i-preserved : goal.loop-i-preserved
 loop-i-preserved c =
-    let l = c.before.before.before in
-    let a = l.before.args in
-    (omega arith, all_more (link_place a.times a.prices a.len) l.loop.i l.loop.invariant.1 (passed c.Place-ok.ensures c.if-not-place_ok.false-raw))
+    let a = c.args in
+    (omega arith, all_more (link_place a.times a.prices a.len) c.loop-i.i c.loop-i.invariant.1 (passed c.place_ok.ensures c.if-not-place_ok.false-raw))

@@ -3,8 +3,9 @@ use mathlib.Core.Path.{◌≡◌, sym, ap, ◌∙◌}
 use native.Mathlib.Omega.{arith}
 use Rattle.core_prices.proofs.Division.{step}
 use Rattle.core_prices.proofs.mean.narrow.Goals as goal
+use Rattle.core_prices.proofs.mean.narrow.Goals.{Start}
 
-abbrev top : tie.Start → ℕ
+abbrev top : Start → ℕ
 top c = c.args.h * 2 ^ 32 + c.args.l / 2 ^ 32
 
 pub returns : goal.returns

@@ -4,14 +4,15 @@ use native.Mathlib.Omega.{arith}
 use native.Mathlib.Nat.{mul-le-mul, add-mul, mul_right_comm, div-add-mod'}
 use Rattle.numbers.specs.Wides.{wide_of}
 use Rattle.core_prices.proofs.mean.scaled.Goals as goal
+use Rattle.core_prices.proofs.mean.scaled.Goals.{Start}
 
-low : (c : goal.Start) → c.args.lo % 2 ^ 32 * c.args.up ≤ 4294967295 * 1000000
+low : (c : Start) → c.args.lo % 2 ^ 32 * c.args.up ≤ 4294967295 * 1000000
 low c = mul-le-mul {n₂ = 4294967295} {m₂ = 1000000} (omega arith) (omega arith)
 
-high : (c : goal.Start) → c.args.lo / 2 ^ 32 * c.args.up ≤ 4294967295 * 1000000
+high : (c : Start) → c.args.lo / 2 ^ 32 * c.args.up ≤ 4294967295 * 1000000
 high c = mul-le-mul {n₂ = 4294967295} {m₂ = 1000000} (omega arith) (omega arith)
 
-whole : (c : goal.Start) → c.args.lo * c.args.up ≡ c.args.lo / 2 ^ 32 * c.args.up * 2 ^ 32 + c.args.lo % 2 ^ 32 * c.args.up
+whole : (c : Start) → c.args.lo * c.args.up ≡ c.args.lo / 2 ^ 32 * c.args.up * 2 ^ 32 + c.args.lo % 2 ^ 32 * c.args.up
 whole c =
     let l = c.args.lo in
     let u = c.args.up in

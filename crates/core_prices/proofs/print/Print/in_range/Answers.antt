@@ -7,11 +7,9 @@ use Rattle.rules.proofs.Integers.{le_not_lt}
 use Rattle.core_prices.specs.Prints.{print_of}
 use Rattle.core_prices.proofs.print.Print.in_range.Goals as goal
 
-prev_fits : (c : goal.After-struct_told-1) → SFits w64 c.args.self.prev_publish_time
-prev_fits c = search rules
 
-published_fits : (c : goal.After-struct_told-2-1) → SFits w64 c.args.self.publish_time
-published_fits c = search rules
+
+
 
 pub returns-then-self-eq0 : goal.returns-then-self-eq0
 unfolding print_of
@@ -21,7 +19,7 @@ pub returns-then-prev-le0 : goal.returns-then-prev-le0
 unfolding print_of
 returns-then-prev-le0 c =
     let p = c.args.self in
-    let f = prev_fits c.before.before.before in
+    let f : SFits w64 c.args.self.prev_publish_time = search rules in
     let g = simp to_z-of_z at c.if-prev-le0.true in
     simp (ne_eqb p.price 0 c.if-self-eq0.false, g)
 
@@ -29,7 +27,7 @@ pub returns : goal.returns
 unfolding print_of
 returns c =
     let p = c.args.self in
-    let f = prev_fits c.before.before.before.before.before in
-    let h = published_fits c in
+    let f : SFits w64 c.args.self.prev_publish_time = search rules in
+    let h : SFits w64 c.args.self.publish_time = search rules in
     let g = simp to_z-of_z at c.if-prev-le0.false in
     simp (to_z-of_z, ne_eqb p.price 0 c.if-self-eq0.false, g) (le_not_lt p.prev_publish_time p.publish_time)
