@@ -1,0 +1,58 @@
+use Prim.Native.Nat.{◌-◌}
+use native.Mathlib.Omega.{arith}
+use lib.ListN.{get_or}
+use lib.IntN.{pos}
+use mir.Syntax.{w64}
+use mir.Val.{SFits}
+use mir.Facts.{to_z-of_z}
+use Rattle.core_terms.specs.Params.{terms_of}
+use Rattle.core_prices.specs.Prints.{print_of}
+use Rattle.core_parts.specs.States.{stored_of}
+use Rattle.core_take.proofs.Links.{few_links, no_room, first_link_lem, later_link_lem}
+use borrow.Author.Rules.{rules}
+use Rattle.core_take.proofs.take.try_next_print.Goals as goal
+
+pub returns-then-p-len : goal.returns-then-p-len
+unfolding terms_of stored_of
+returns-then-p-len c =
+    let a = c.args in
+    no_room (terms_of a.p) a.expiry (stored_of a.s) (print_of a.x) c.if-p-len.true
+
+pub returns-then-len-eq0 : goal.returns-then-len-eq0
+unfolding terms_of stored_of print_of
+returns-then-len-eq0 c =
+    let a = c.args in
+    let f-expiry = c.ranges.expiry in
+    let f-publish = publish_fits c in
+    let f-prev = prev_fits c in
+    first_link_lem (terms_of a.p) a.expiry (stored_of a.s) (print_of a.x) c.if-len-eq0.true c.if-p-len.false _ (simp to_z-of_z at c.first_link.ensures)
+  where
+    publish_fits : (c : tie.After-struct-told) → SFits w64 c.args.x.publish_time
+    publish_fits c = search rules
+
+    prev_fits : (c : tie.After-struct-told2) → SFits w64 c.args.x.prev_publish_time
+    prev_fits c = search rules
+
+pub bounds-s-end : goal.bounds-s-end
+unfolding terms_of
+bounds-s-end c =
+    omega (arith, c.if-p-len.false, few_links (terms_of c.args.p) c.requires)
+
+pub returns : goal.returns
+unfolding terms_of stored_of print_of
+returns c =
+    let a = c.args in
+    let n = a.s.next_len - 1 in
+    let f-last = last_fits c.before in
+    let f-publish = publish_fits c in
+    let f-prev = prev_fits c in
+    later_link_lem (terms_of a.p) a.expiry (stored_of a.s) (print_of a.x) n (omega (arith, c.if-len-eq0.false)) c.if-p-len.false _ (simp to_z-of_z at c.later_link.ensures)
+  where
+    last_fits : (c : tie.After-last) → SFits w64 (get_or c.args.s.next_times (c.args.s.next_len - 1) (pos 0))
+    last_fits c = search rules
+
+    publish_fits : (c : tie.After-struct-told3) → SFits w64 c.args.x.publish_time
+    publish_fits c = search rules
+
+    prev_fits : (c : tie.After-struct-told4) → SFits w64 c.args.x.prev_publish_time
+    prev_fits c = search rules
