@@ -23,15 +23,9 @@ unfolding terms_of stored_of print_of
 returns-then-len-eq0 c =
     let a = c.args in
     let f-expiry = c.ranges.expiry in
-    let f-publish = publish_fits c in
-    let f-prev = prev_fits c in
+    let f-publish : SFits w64 a.x.publish_time = search rules in
+    let f-prev : SFits w64 a.x.prev_publish_time = search rules in
     first_link_lem (terms_of a.p) a.expiry (stored_of a.s) (print_of a.x) c.if-len-eq0.true c.if-p-len.false _ (simp to_z-of_z at c.first_link.ensures)
-  where
-    publish_fits : (c : tie.After-struct-told) → SFits w64 c.args.x.publish_time
-    publish_fits c = search rules
-
-    prev_fits : (c : tie.After-struct-told2) → SFits w64 c.args.x.prev_publish_time
-    prev_fits c = search rules
 
 pub bounds-s-end : goal.bounds-s-end
 unfolding terms_of
@@ -43,16 +37,7 @@ unfolding terms_of stored_of print_of
 returns c =
     let a = c.args in
     let n = a.s.next_len - 1 in
-    let f-last = last_fits c.before in
-    let f-publish = publish_fits c in
-    let f-prev = prev_fits c in
+    let f-last : SFits w64 (get_or a.s.next_times n (pos 0)) = search rules in
+    let f-publish : SFits w64 a.x.publish_time = search rules in
+    let f-prev : SFits w64 a.x.prev_publish_time = search rules in
     later_link_lem (terms_of a.p) a.expiry (stored_of a.s) (print_of a.x) n (omega (arith, c.if-len-eq0.false)) c.if-p-len.false _ (simp to_z-of_z at c.later_link.ensures)
-  where
-    last_fits : (c : tie.After-last) → SFits w64 (get_or c.args.s.next_times (c.args.s.next_len - 1) (pos 0))
-    last_fits c = search rules
-
-    publish_fits : (c : tie.After-struct-told3) → SFits w64 c.args.x.publish_time
-    publish_fits c = search rules
-
-    prev_fits : (c : tie.After-struct-told4) → SFits w64 c.args.x.prev_publish_time
-    prev_fits c = search rules

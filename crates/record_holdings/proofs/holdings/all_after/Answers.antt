@@ -3,7 +3,7 @@ use Prim.Native.Nat.{ℕ, ◌+◌, ◌*◌, ◌/◌, ◌%◌, ◌^◌, ◌≤◌
 use mathlib.Core.Path.{◌≡◌, refl, sym, ap, ◌∙◌}
 use mathlib.Core.Bool.{Bool, true, false, not, ◌||◌}
 use native.Mathlib.Omega.{arith}
-use native.Mathlib.Nat.{div-one, div-eq_of_lt, lt_of_lt_of_le, le_trans, mul-le-mul_right}
+use native.Mathlib.Nat.{div-eq_of_lt, lt_of_lt_of_le, le_trans, mul-le-mul_right}
 use lib.Arith.{lt_of_le-ne}
 use lib.Pow.{pow_mono, shr-shr}
 use lib.Dec.{ltb, leb, eqb}
@@ -14,17 +14,9 @@ use Rattle.rules.proofs.Bools.{or_true}
 use Rattle.rules.proofs.Bits.{none_above, bit-above}
 use Rattle.rules.proofs.Sums.{all<_yes, all<_no}
 use Rattle.record_holdings.specs.Tests.{all_after}
-use Rattle.record_holdings.proofs.holdings.all_after.Statement.{statement}
-use Rattle.record_holdings.proofs.holdings.all_after.Tie as tie
-
-abbrev Clear : ℕ → ℕ → Type 0
-Clear bits i = (j : ℕ) → j < i → bit j bits ≡ false
-
-abbrev invariant-loop : tie.invariant-loop
-invariant-loop bits slot seconds rest₀ i₀ rest i = (rest ≡ bits / 2 ^ i) × Clear bits i
-
-abbrev decreases-loop : tie.decreases-loop
-decreases-loop bits slot seconds rest₀ i₀ rest i = rest
+use Rattle.record_holdings.proofs.holdings.all_after.Invariants.{Clear}
+use Rattle.record_holdings.proofs.holdings.all_after.Goals as goal
+use Rattle.record_holdings.proofs.holdings.all_after.Goals.{Then-rest-eq1}
 
 -- while there is a rest, it begins below the last place
 within : (bits rest i : ℕ) → bits < 2 ^ slot_places → rest ≡ bits / 2 ^ i → 0 < rest → i < slot_places
@@ -49,42 +41,22 @@ lowest bits slot seconds i l clear set = go (leb seconds (i * slot)) refl
     go true q = sym (all<_yes slot_places _ (λ j m. passes (leb-true seconds (i * slot) q) j (ltb j i) refl))
     go false q = sym (all<_no slot_places (λ j. not (bit j bits) || leb seconds (j * slot)) i l (rw (set, q)))
 
-product : (a b : ℕ) → a < 32 → b < 2 ^ 32 → a * b < 2 ^ 64
-product a b h k = omega (arith, mul-le-mul_right {m = a} {n = 31} b (omega arith))
+few : (c : Then-rest-eq1) → c.loop-rest.i < slot_places
+few c = within c.args.bits c.loop-rest.rest c.loop-rest.i c.ranges.bits.fits c.loop-rest.invariant.0 (omega arith)
 
-loop-holds : tie.Need-loop-init invariant-loop decreases-loop
-loop-holds c = (sym (div-one c.args.bits), λ j l. absurd (omega arith))
-
-few : (c : tie.Then1 invariant-loop decreases-loop) → c.before.before.loop.i < slot_places
-few c = within c.before.before.before.args.bits c.before.before.loop.rest c.before.before.loop.i c.before.before.before.ranges.bits.fits c.before.before.loop.invariant.0 (omega arith)
-
-cast-result : tie.Need-overflow-cast-result invariant-loop decreases-loop
-cast-result c = omega (arith, few c)
-
-mul-result : tie.Need-overflow-mul-result invariant-loop decreases-loop
-mul-result c = record { fits = product c.before.before.loop.i c.before.before.before.args.slot (few c) c.before.before.before.ranges.slot.fits }
-
-returns : tie.Need-returns invariant-loop decreases-loop
+pub returns-then-rest-eq1 : goal.returns-then-rest-eq1
 unfolding bit
-returns c =
-    let a = c.before.before.before.args in
-    let l = c.before.before.loop in
-    lowest a.bits a.slot a.seconds l.i (few c) l.invariant.1 (eq-eqb (a.bits / 2 ^ l.i % 2) 1 (ap (λ (n : ℕ). n % 2) (sym l.invariant.0) ∙ c.if1.true))
+returns-then-rest-eq1 c =
+    let a = c.args in
+    let l = c.loop-rest in
+    lowest a.bits a.slot a.seconds l.i (few c) l.invariant.1 (eq-eqb (a.bits / 2 ^ l.i % 2) 1 (ap (λ (n : ℕ). n % 2) (sym l.invariant.0) ∙ c.if-rest-eq1.true))
 
-add-i : tie.Need-overflow-add-i invariant-loop decreases-loop
-add-i c =
-    let l = c.before.before.loop in
-    omega (arith, within c.before.before.before.args.bits l.rest l.i c.before.before.before.ranges.bits.fits l.invariant.0 (omega arith))
-
-loop-less : tie.Need-loop-smaller invariant-loop decreases-loop
-loop-less c = omega arith
-
-loop-again : tie.Need-loop-preserved invariant-loop decreases-loop
+pub loop-rest-preserved : goal.loop-rest-preserved
 unfolding bit
-loop-again c =
-    let a = c.before.before.before.args in
-    let l = c.before.before.loop in
-    let empty : bit l.i a.bits ≡ false = ne_eqb (a.bits / 2 ^ l.i % 2) 1 (λ e. c.if1.false (ap (λ (n : ℕ). n % 2) l.invariant.0 ∙ e)) in (
+loop-rest-preserved c =
+    let a = c.args in
+    let l = c.loop-rest in
+    let empty : bit l.i a.bits ≡ false = ne_eqb (a.bits / 2 ^ l.i % 2) 1 (λ e. c.if-rest-eq1.false (ap (λ (n : ℕ). n % 2) l.invariant.0 ∙ e)) in (
       ap (λ (n : ℕ). n / 2) l.invariant.0 ∙ shr-shr a.bits l.i 1,
       λ j m. more a.bits l.i l.invariant.1 empty j m (eqb j l.i) refl,
     )
@@ -93,11 +65,11 @@ loop-again c =
     more bits i clear e j m true q = ap (λ (k : ℕ). bit k bits) (eqb-true j i q) ∙ e
     more bits i clear e j m false q = clear j (lt_of_le-ne (omega arith) (eqb-false j i q))
 
-returns-2 : tie.Need-returns-2 invariant-loop decreases-loop
+pub returns : goal.returns
 unfolding all_after
-returns-2 c =
-    let a = c.before.before.args in
-    let l = c.before.loop in
+returns c =
+    let a = c.args in
+    let l = c.loop-rest in
     let done : a.bits / 2 ^ l.i ≡ 0 = sym l.invariant.0 ∙ omega arith in
     sym (all<_yes slot_places _ (λ j m. go a.bits a.slot a.seconds l.i done l.invariant.1 j (ltb j l.i) refl))
   where
@@ -106,18 +78,3 @@ returns-2 c =
     go bits slot seconds i e clear j false q =
         let low = ltb-true bits (2 ^ i) (sym (none_above bits i) ∙ eq-eqb (bits / 2 ^ i) 0 e) in
         rw (bit-above bits i j low (ltb-false j i q))
-
-pub all_after_spec : {M : Type 1} → statement M
-all_after_spec =
-    tie.close
-    (tie.spec
-    invariant-loop
-    decreases-loop
-    loop-holds
-    cast-result
-    mul-result
-    returns
-    add-i
-    loop-less
-    loop-again
-    returns-2)
