@@ -1,5 +1,5 @@
 use Prim.Native.Nat.{◌+◌, ◌*◌, ◌^◌}
-use mathlib.Core.List.{◌∷◌}
+use mathlib.Core.List.{◌∷◌, []}
 use mir.Syntax.{w64}
 use Rattle.rules.specs.Record.{parts_in}
 use Rattle.core_parts.specs.States.{stored_of}
