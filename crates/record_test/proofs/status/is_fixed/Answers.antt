@@ -8,20 +8,13 @@ use Rattle.fields.proofs.Offsets.{came}
 use Rattle.record_test.specs.Statuses.{decision_in}
 use Rattle.record_test.proofs.Statuses.{called, fixed_called, decision_of_lem}
 use Rattle.record_test.proofs.status.is_fixed.Goals as goal
-use Rattle.record_test.proofs.status.is_fixed.Goals.{After-decide_in}
-
--- what was answered is the core's call at the fixing time
-again_is : (c : After-decide_in) → decision_of c.decide_in.result ≡ called c.args.bytes.now
-again_is c =
-    let bs = c.args.bytes.now in
-    c.decide_in.ensures ∙ ap (decision_in bs) (came w64 c.i64_at.type_inv c.i64_at.ensures) ∙ decision_of_lem bs (fixing_time_in bs) c.requires
 
 pub returns-in_default : goal.returns-in_default
 returns-in_default c =
     let bs = c.args.bytes.now in
-    sym (sym (fixed_called bs) ∙ ap (λ (a : Answer). every (standing bs a)) (sym (again_is c.before) ∙ ap decision_of c.in_default.is))
+    sym (sym (fixed_called bs) ∙ ap (λ (a : Answer). every (standing bs a)) (sym ((let h : decision_of c.decide_in.result ≡ called c.args.bytes.now = let bs = c.args.bytes.now in c.decide_in.ensures ∙ ap (decision_in bs) (came w64 c.i64_at.type_inv c.i64_at.ensures) ∙ decision_of_lem bs (fixing_time_in bs) c.requires in h)) ∙ ap decision_of c.in_default.is))
 
 pub returns : goal.returns
 returns c =
     let bs = c.args.bytes.now in
-    c.stands.ensures ∙ ap (λ (a : Answer). every (standing bs a)) (sym (ap decision_of c.in-Ok.is) ∙ again_is c.before.before) ∙ fixed_called bs
+    c.stands.ensures ∙ ap (λ (a : Answer). every (standing bs a)) (sym (ap decision_of c.in-Ok.is) ∙ (let h : decision_of c.decide_in.result ≡ called c.args.bytes.now = let bs = c.args.bytes.now in c.decide_in.ensures ∙ ap (decision_in bs) (came w64 c.i64_at.type_inv c.i64_at.ensures) ∙ decision_of_lem bs (fixing_time_in bs) c.requires in h)) ∙ fixed_called bs

@@ -5,20 +5,14 @@ use Rattle.book.specs.Looks.{look_result_of}
 use Rattle.record_test.specs.Statuses.{status_of, status_in}
 use Rattle.book.proofs.Looks.{looked, part_looked}
 use Rattle.record_test.proofs.status.status_at.Goals as goal
-use Rattle.record_test.proofs.status.status_at.Goals.{In-Ok}
-
--- the look is allowed
-allowed : (c : In-Ok) → L.Ok ≡ look_result_of (look c.args.book.now c.args.series)
-allowed c = c.in-Ok.ensures
 
 pub status_of-requires : goal.status_of-requires
 status_of-requires c =
     let a = c.args in
-    (part_looked a.book.now a.series (allowed c.before) c.look.ensures).1
+    (part_looked a.book.now a.series ((let h : L.Ok ≡ look_result_of (look c.args.book.now c.args.series) = c.in-Ok.ensures in h)) c.look.ensures).1
 
 pub returns-in-Ok : goal.returns-in-Ok
 returns-in-Ok c =
-    let k = c.before in
-    let a = k.args in
+    let a = c.args in
     let book = a.book.now in
-    c.status_of.ensures ∙ ap status_of (part_looked book a.series (allowed k.before) k.look.ensures).0 ∙ sym (ap status_in (looked book a.series (allowed k.before)))
+    c.status_of.ensures ∙ ap status_of (part_looked book a.series ((let h : L.Ok ≡ look_result_of (look c.args.book.now c.args.series) = c.in-Ok.ensures in h)) c.look.ensures).0 ∙ sym (ap status_in (looked book a.series ((let h : L.Ok ≡ look_result_of (look c.args.book.now c.args.series) = c.in-Ok.ensures in h))))

@@ -5,7 +5,7 @@ use lib.Seq.{sets}
 use Rattle.record_write.proofs.put.put_bytes.Given as goal
 
 abbrev pub invariant-loop-i : goal.invariant-loop-i
-invariant-loop-i l = (l.i ≤ length l.initial.bs) × (length l.bs ≡ length l.slice) × (l.bs ≡ sets l.slice l.at (take l.i l.initial.bs))
+invariant-loop-i l = (l.i ≤ length l.bs) × (length l.slice ≡ length l.initial.slice) × (l.slice ≡ sets l.initial.slice l.at (take l.i l.bs))
 
 abbrev pub decreases-loop-i : goal.decreases-loop-i
-decreases-loop-i l = length l.initial.bs - l.i
+decreases-loop-i l = length l.bs - l.i
