@@ -11,19 +11,6 @@ use Rattle.core_terms.specs.Params.{terms_of}
 use Rattle.record_write.proofs.Stores.{head_stored}
 use borrow.Author.Rules.{rules}
 use Rattle.record_write.proofs.record.write_head.Goals as goal
-use Rattle.record_write.proofs.record.write_head.Goals.{Start}
-
-expo_fits : (s : Start) → SFits w8 s.args.p.expo
-expo_fits s = search rules
-
-tag_fits : (s : Start) → s.args.tag < 256
-tag_fits s = search rules
-
-k_fits : (s : Start) → s.args.p.k_next_print < 256
-k_fits s = search rules
-
-links_fit : (s : Start) → s.args.links < 256
-links_fit s = search rules
 
 word_fits : (z : ℤ) → SFits w8 z → word 8 z < 256
 word_fits z h = word_below 7 z (lt-ltb (mag z) (2 ^ 7) h.sfits)
@@ -31,22 +18,16 @@ word_fits z h = word_below 7 z (lt-ltb (mag z) (2 ^ 7) h.sfits)
 pub returns : goal.returns
 unfolding terms_of
 returns c =
-    let c4 = c.before.before.before in
-    let c3 = c4.before.before.before in
-    let c2 = c3.before.before.before in
-    let c1 = c2.before.before.before in
-    let b = c1.before.before.before.before.before in
-    let s = b.before in
-    let a = s.args in
+    let a = c.args in
     let p = a.p in
-    let fe = expo_fits s in
+    let fe = (let h : SFits w8 c.args.p.expo = search rules in h) in
     rw (
       c.put_u16-4.ensures,
-      c4.put_u16-3.ensures,
-      c3.put_u16-2.ensures,
-      c2.put_u16.ensures,
-      c1.put_bytes.ensures,
-      simp to_z-of_z at b.i8_to_bits.ensures,
+      c.put_u16-3.ensures,
+      c.put_u16-2.ensures,
+      c.put_u16.ensures,
+      c.put_bytes.ensures,
+      simp to_z-of_z at c.i8_to_bits.ensures,
     )
     (head_stored a.slice.now a.tag p.k_next_print (word 8 p.expo) a.links p.slot_tolerance_s p.min_samples a.bps a.samples
-    (tag_fits s) (k_fits s) (word_fits p.expo fe) (links_fit s))
+    ((let h : c.args.tag < 256 = search rules in h)) ((let h : c.args.p.k_next_print < 256 = search rules in h)) (word_fits p.expo fe) ((let h : c.args.links < 256 = search rules in h)))

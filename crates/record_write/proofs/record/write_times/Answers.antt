@@ -9,21 +9,11 @@ use Rattle.rules.proofs.State.{five_are}
 use Rattle.record_write.proofs.Stores.{numbers_stored}
 use borrow.Author.Rules.{rules}
 use Rattle.record_write.proofs.record.write_times.Goals as goal
-use Rattle.record_write.proofs.record.write_times.Goals.{Start}
-
-five : (s : Start) → length s.args.times ≡ 5
-five s = search rules
 
 pub returns : goal.returns
 returns c =
-    let w5 = c.before.before in
-    let w4 = w5.before.before.before in
-    let w3 = w4.before.before.before in
-    let w2 = w3.before.before.before in
-    let w1 = w2.before.before.before in
-    let s = w1.before.before in
-    let a = s.args in
+    let a = c.args in
     let t = a.times in
-    rw (w5.write_time-5.ensures, w4.write_time-4.ensures, w3.write_time-3.ensures, w2.write_time-2.ensures, w1.write_time.ensures)
+    rw (c.write_time-5.ensures, c.write_time-4.ensures, c.write_time-3.ensures, c.write_time-2.ensures, c.write_time.ensures)
     (numbers_stored ((8, word 64 (get_or t 0 (pos 0))) ∷ (8, word 64 (get_or t 1 (pos 0))) ∷ (8, word 64 (get_or t 2 (pos 0))) ∷ (8, word 64 (get_or t 3 (pos 0))) ∷ (8, word 64 (get_or t 4 (pos 0))) ∷ []) a.slice.now 64
-    ∙ ap (λ (l : List ℤ). sets a.slice.now 64 (concat (eight_signed l))) (five_are (pos 0) t (five s)))
+    ∙ ap (λ (l : List ℤ). sets a.slice.now 64 (concat (eight_signed l))) (five_are (pos 0) t ((let h : length c.args.times ≡ 5 = search rules in h))))
