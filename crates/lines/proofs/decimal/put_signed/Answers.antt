@@ -1,0 +1,1 @@
+use Rattle.lines.proofs.decimal.put_signed.Goals as goal

@@ -1,0 +1,1 @@
+use Rattle.lines.proofs.line.put_settle.Goals as goal
