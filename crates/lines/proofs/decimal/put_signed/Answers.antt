@@ -1,1 +1,0 @@
-use Rattle.lines.proofs.decimal.put_signed.Goals as goal

@@ -1,1 +1,0 @@
-use Rattle.lines.proofs.line.put_head.Goals as goal

@@ -1,1 +1,0 @@
-use Rattle.lines.proofs.line.put_used.Goals as goal
