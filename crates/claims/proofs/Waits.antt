@@ -22,7 +22,7 @@ use Rattle.rules.specs.Taking.{bit, print_answer}
 use Rattle.rules.specs.Series.{Opening, Command, Open, Offer, Ask, Fix, Withdraw, Holdings, Series, empty, live, fixed, no_holdings, keeps, leaves, decided, offer_held, offered, fixing, withdrawn, withdrawing, step, Step, answer_of, changed, answer, after}
 use Rattle.rules.specs.Record.{series_count, opening_fields, opening_fits}
 use Rattle.rules.specs.Entries.{Entry, no_command, command, entry}
-use Rattle.rules.specs.Ledger.{opening, events, candidates, holdings, Freeze, freeze, command_to, commands_to, ledgers, is_open, ledger_answer}
+use Rattle.rules.specs.Ledger.{opening, events, holdings, Freeze, freeze, command_to, commands_to, ledgers, is_open, ledger_answer}
 use Rattle.claims.specs.Demand3.{answered, ask_of, is_ask, may_stand, ◌▹▹◌, between, Settles}
 use Rattle.claims.proofs.Entries.{commands_fit, series_after, ledgers_more}
 use Rattle.claims.proofs.Book.{answer_is}

@@ -21,7 +21,7 @@ use Rattle.rules.specs.Prints.{Print, Quote, eq_z, good_print, new_print, accept
 use Rattle.rules.specs.Taking.{Candidates, slot_for, is_link, is_fallback, usable, times_fit, sum_fits, print_answer}
 use Rattle.rules.specs.Decision.{Order}
 use Rattle.rules.specs.Series.{Opening, Command, Open, Offer, Ask, Fix, Withdraw, Holdings, empty, live, fixed, no_holdings, keeps, leaves, decided, offer_held, offered, waiting, withdrawing, step, changed, after}
-use Rattle.rules.specs.Ledger.{good_open, opening, Posting, Event, posted, withdrawal, accepted, taken, events, candidates, holder, holdings, Freeze, freezes, freeze, taken_events, since, ledger}
+use Rattle.rules.specs.Ledger.{good_open, opening, Posting, Event, posted, withdrawal, accepted, taken, events, holder, holdings, Freeze, freezes, freeze, taken_events, since, ledger}
 
 -- ---- what an accepted print is
 

@@ -1,0 +1,50 @@
+use Prim.Native.Nat.{ℕ}
+use mathlib.Core.Path.{refl, sym, ap, ◌∙◌}
+use mathlib.Core.List.{List}
+use Rattle.rules.specs.State.{Parts, parts_of}
+use Rattle.rules.specs.Series.{Open, no_candidates, step}
+use Rattle.rules.specs.Record.{prices_in, open_record}
+use Rattle.rules.specs.Book.{record_at, replaced}
+use Rattle.core_parts.proofs.Places.{passed, failed}
+use Rattle.record_read.specs.Records.{opening_with}
+use Rattle.answers.proofs.Commands.{answered, left, allowed}
+use Rattle.openings.proofs.Opens.{none_priced, open_refused, open_done}
+use Rattle.openings.proofs.open.open.Goals as goal
+
+pub returns-then-not-in_range : goal.returns-then-not-in_range
+returns-then-not-in_range c =
+    let a = c.before.before.before.before.before.before.before.args in
+    let book = a.book.now in
+    let o = opening_with a.params a.max_conf_bps a.expiry.0 in
+    let e = c.in-Empty.is in
+    let x = open_refused book a.series o (failed c.in_range.ensures c.if-not-in_range.true-raw) in
+    (x.0 ∙ answered book a.series c.status_at.ensures e (Open o), x.1 ∙ left book a.series c.status_at.ensures e (Open o))
+
+pub store_open-requires : goal.store_open-requires
+store_open-requires c = let a = c.before.before.before.before.before.before.before.before.before.args in allowed a.book.now a.series c.status_at.ensures c.in-Empty.is refl
+
+pub returns-else-not-in_range : goal.returns-else-not-in_range
+returns-else-not-in_range c =
+    let a = c.before.before.before.before.before.before.before.before.before.before.before.before.args in
+    let book = a.book.now in
+    let o = opening_with a.params a.max_conf_bps a.expiry.0 in
+    let e = c.in-Empty.is in
+    let x = open_done book a.series o (passed c.in_range.ensures c.if-not-in_range.false-raw) in (
+      x.0 ∙ answered book a.series c.status_at.ensures e (Open o),
+      c.store_open.ensures ∙ ap (λ (s : Parts). replaced a.series (open_record o s (prices_in (record_at a.series book))) book) c.empty.ensures
+          ∙ ap (λ (prices : List ℕ). replaced a.series (open_record o (parts_of no_candidates) prices) book) (none_priced book a.series (sym c.status_at.ensures ∙ e)) ∙ x.1 ∙ left book a.series c.status_at.ensures e (Open o),
+    )
+
+pub returns-in-Fixed : goal.returns-in-Fixed
+unfolding step
+returns-in-Fixed c =
+    let a = c.before.before.before.before.before.args in
+    let o = opening_with a.params a.max_conf_bps a.expiry.0 in
+    (answered a.book.now a.series c.status_at.ensures c.in-Fixed.is (Open o), left a.book.now a.series c.status_at.ensures c.in-Fixed.is (Open o))
+
+pub returns-in-Refused : goal.returns-in-Refused
+unfolding step
+returns-in-Refused c =
+    let a = c.before.before.before.before.before.before.args in
+    let o = opening_with a.params a.max_conf_bps a.expiry.0 in
+    (answered a.book.now a.series c.status_at.ensures c.in-Refused.is (Open o), left a.book.now a.series c.status_at.ensures c.in-Refused.is (Open o))
