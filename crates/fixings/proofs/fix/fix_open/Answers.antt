@@ -14,40 +14,29 @@ use Rattle.answers.specs.Commands.{book_answer}
 use Rattle.answers.proofs.Commands.{may_look, part-decided}
 use Rattle.fixings.proofs.Fixes.{fix_turned, fix_pending, fix_made}
 use Rattle.fixings.proofs.fix.fix_open.Goals as goal
-use Rattle.fixings.proofs.fix.fix_open.Goals.{After-decide_in-r}
-
--- what was answered is the core's call on the record
-called : (c : After-decide_in-r)
-    → decide_call voted (opening_in (record_at c.before.before.before.before.args.series c.before.before.before.before.args.book.now)).terms (opening_in (record_at c.before.before.before.before.args.series c.before.before.before.before.args.book.now)).expiry (parts_in (record_at c.before.before.before.before.args.series c.before.before.before.before.args.book.now)) c.before.before.before.before.args.now
-    ≡ decision_of c.decide_in-r.result
-called c =
-    let a = c.before.before.before.before.args in
-    let f = c.before.before.before.before.ranges.now in
-    sym (c.decide_in-r.ensures ∙ ap (decision_in (part_at a.series a.book.now)) (to_z-of_z f) ∙ part-decided a.book.now a.series c.before.before.before.before.requires a.now)
 
 pub slice_bounds-decide_in-end : goal.slice_bounds-decide_in-end
 slice_bounds-decide_in-end c =
-    let a = c.before.before.args in
-    omega (arith, allowed-book a.book.now a.series (may_look a.book.now a.series c.before.before.requires))
+    let a = c.args in
+    omega (arith, allowed-book a.book.now a.series (may_look a.book.now a.series c.requires))
 
 pub returns-in_default : goal.returns-in_default
 returns-in_default c =
-    let a = c.before.before.before.before.before.before.before.args in
-    let e = c.enum_told-1.given in
-    let x = fix_turned a.book.now a.series c.before.before.before.before.before.before.before.requires a.now (number_of e.0.0) (called c.before.before ∙ ap decision_of e.1) in
-    (c.of_result.ensures ∙ ap (λ r. book_answer (decision_of r)) e.1 ∙ x.0, x.1)
+    let a = c.args in
+    let x = fix_turned a.book.now a.series c.requires a.now (number_of c.in_default.field-0) ((let h : decide_call voted (opening_in (record_at c.args.series c.args.book.now)).terms (opening_in (record_at c.args.series c.args.book.now)).expiry (parts_in (record_at c.args.series c.args.book.now)) c.args.now ≡ decision_of c.decide_in-r.result = let a = c.args in let f = c.ranges.now in sym (c.decide_in-r.ensures ∙ ap (decision_in (part_at a.series a.book.now)) (to_z-of_z f) ∙ part-decided a.book.now a.series c.requires a.now) in h) ∙ ap decision_of c.in_default.is) in
+    (c.of_result.ensures ∙ ap (λ r. book_answer (decision_of r)) c.in_default.is ∙ x.0, x.1)
 
 pub returns-then-not-is_final : goal.returns-then-not-is_final
 returns-then-not-is_final c =
-    let a = c.before.before.before.before.before.before.before.before.before.args in
-    fix_pending a.book.now a.series c.before.before.before.before.before.before.before.before.before.requires a.now c.in-Ok.r (called c.before.before.before ∙ ap decision_of c.in-Ok.is) (failed c.is_final.ensures c.if-not-is_final.true-raw)
+    let a = c.args in
+    fix_pending a.book.now a.series c.requires a.now c.in-Ok.d ((let h : decide_call voted (opening_in (record_at c.args.series c.args.book.now)).terms (opening_in (record_at c.args.series c.args.book.now)).expiry (parts_in (record_at c.args.series c.args.book.now)) c.args.now ≡ decision_of c.decide_in-r.result = let a = c.args in let f = c.ranges.now in sym (c.decide_in-r.ensures ∙ ap (decision_in (part_at a.series a.book.now)) (to_z-of_z f) ∙ part-decided a.book.now a.series c.requires a.now) in h) ∙ ap decision_of c.in-Ok.is) (failed c.is_final.ensures c.if-not-is_final.true-raw)
 
 pub store_fixed-requires : goal.store_fixed-requires
-store_fixed-requires c = let a = c.before.before.before.before.before.before.before.before.before.before.args in may_look a.book.now a.series c.before.before.before.before.before.before.before.before.before.before.requires
+store_fixed-requires c = let a = c.args in may_look a.book.now a.series c.requires
 
 pub returns : goal.returns
 returns c =
-    let a = c.before.before.before.before.before.before.before.before.before.before.before.before.before.before.args in
-    let f = c.before.before.before.before.before.before.before.before.before.before.before.before.before.before.ranges.now in
-    let x = fix_made a.book.now a.series c.before.before.before.before.before.before.before.before.before.before.before.before.before.before.requires a.now c.in-Ok.r (called c.before.before.before.before.before.before.before ∙ ap decision_of c.in-Ok.is) (passed c.is_final.ensures c.if-not-is_final.false-raw) in
+    let a = c.args in
+    let f = c.ranges.now in
+    let x = fix_made a.book.now a.series c.requires a.now c.in-Ok.d ((let h : decide_call voted (opening_in (record_at c.args.series c.args.book.now)).terms (opening_in (record_at c.args.series c.args.book.now)).expiry (parts_in (record_at c.args.series c.args.book.now)) c.args.now ≡ decision_of c.decide_in-r.result = let a = c.args in let f = c.ranges.now in sym (c.decide_in-r.ensures ∙ ap (decision_in (part_at a.series a.book.now)) (to_z-of_z f) ∙ part-decided a.book.now a.series c.requires a.now) in h) ∙ ap decision_of c.in-Ok.is) (passed c.is_final.ensures c.if-not-is_final.false-raw) in
     (c.of_decision.ensures ∙ x.0, (simp to_z-of_z at c.store_fixed.ensures) ∙ x.1)

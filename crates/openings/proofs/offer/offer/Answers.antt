@@ -6,23 +6,17 @@ use Rattle.openings.proofs.offer.offer.Goals as goal
 pub returns-in-Empty : goal.returns-in-Empty
 unfolding step
 returns-in-Empty c =
-    let t = c in
-    let l = t.before.before in
-    let a = l.before.before.before.args in
-    (answered a.book.now a.series l.status-at.ensures t.enum_told.given.1 (Offer (quote_of a.quote) a.now), left a.book.now a.series l.status-at.ensures t.enum_told.given.1 (Offer (quote_of a.quote) a.now))
+    let a = c.args in
+    (answered a.book.now a.series c.status_at.ensures c.in-Empty.is (Offer (quote_of a.quote) a.now), left a.book.now a.series c.status_at.ensures c.in-Empty.is (Offer (quote_of a.quote) a.now))
 
 pub returns-in-Fixed : goal.returns-in-Fixed
 unfolding step
 returns-in-Fixed c =
-    let t = c in
-    let l = t.before.before in
-    let a = l.before.before.before.args in
-    (answered a.book.now a.series l.status-at.ensures t.enum-told3.given.1 (Offer (quote_of a.quote) a.now), left a.book.now a.series l.status-at.ensures t.enum-told3.given.1 (Offer (quote_of a.quote) a.now))
+    let a = c.args in
+    (answered a.book.now a.series c.status_at.ensures c.in-Fixed.is (Offer (quote_of a.quote) a.now), left a.book.now a.series c.status_at.ensures c.in-Fixed.is (Offer (quote_of a.quote) a.now))
 
 pub returns-in-Refused : goal.returns-in-Refused
 unfolding step
 returns-in-Refused c =
-    let t = c in
-    let l = t.before in
-    let a = l.before.before.before.args in
-    (answered a.book.now a.series l.status_at.ensures t.in-Refused.is (Offer (quote_of a.quote) a.now), left a.book.now a.series l.status_at.ensures t.in-Refused.is (Offer (quote_of a.quote) a.now))
+    let a = c.args in
+    (answered a.book.now a.series c.status_at.ensures c.in-Refused.is (Offer (quote_of a.quote) a.now), left a.book.now a.series c.status_at.ensures c.in-Refused.is (Offer (quote_of a.quote) a.now))

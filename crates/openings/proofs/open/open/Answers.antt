@@ -13,7 +13,7 @@ use Rattle.openings.proofs.open.open.Goals as goal
 
 pub returns-then-not-in_range : goal.returns-then-not-in_range
 returns-then-not-in_range c =
-    let a = c.before.before.before.before.before.before.before.args in
+    let a = c.args in
     let book = a.book.now in
     let o = opening_with a.params a.max_conf_bps a.expiry.0 in
     let e = c.in-Empty.is in
@@ -21,11 +21,11 @@ returns-then-not-in_range c =
     (x.0 ∙ answered book a.series c.status_at.ensures e (Open o), x.1 ∙ left book a.series c.status_at.ensures e (Open o))
 
 pub store_open-requires : goal.store_open-requires
-store_open-requires c = let a = c.before.before.before.before.before.before.before.before.before.args in allowed a.book.now a.series c.status_at.ensures c.in-Empty.is refl
+store_open-requires c = let a = c.args in allowed a.book.now a.series c.status_at.ensures c.in-Empty.is refl
 
 pub returns-else-not-in_range : goal.returns-else-not-in_range
 returns-else-not-in_range c =
-    let a = c.before.before.before.before.before.before.before.before.before.before.before.before.args in
+    let a = c.args in
     let book = a.book.now in
     let o = opening_with a.params a.max_conf_bps a.expiry.0 in
     let e = c.in-Empty.is in
@@ -38,13 +38,13 @@ returns-else-not-in_range c =
 pub returns-in-Fixed : goal.returns-in-Fixed
 unfolding step
 returns-in-Fixed c =
-    let a = c.before.before.before.before.before.args in
+    let a = c.args in
     let o = opening_with a.params a.max_conf_bps a.expiry.0 in
     (answered a.book.now a.series c.status_at.ensures c.in-Fixed.is (Open o), left a.book.now a.series c.status_at.ensures c.in-Fixed.is (Open o))
 
 pub returns-in-Refused : goal.returns-in-Refused
 unfolding step
 returns-in-Refused c =
-    let a = c.before.before.before.before.before.before.args in
+    let a = c.args in
     let o = opening_with a.params a.max_conf_bps a.expiry.0 in
     (answered a.book.now a.series c.status_at.ensures c.in-Refused.is (Open o), left a.book.now a.series c.status_at.ensures c.in-Refused.is (Open o))

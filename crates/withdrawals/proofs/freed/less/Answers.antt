@@ -3,10 +3,6 @@ use Rattle.numbers.specs.Wides.{wide_of}
 use Rattle.withdrawals.proofs.Withdraws.{less_low, less_high}
 use borrow.Author.Rules.{rules}
 use Rattle.withdrawals.proofs.freed.less.Goals as goal
-use Rattle.withdrawals.proofs.freed.less.Goals.{Start}
-
-price_fits : (s : Start) → s.args.price < 2 ^ 64
-price_fits s = search rules
 
 pub returns-then-price-sum : goal.returns-then-price-sum
 unfolding wide_of
@@ -14,8 +10,8 @@ returns-then-price-sum c = let a = c.args in less_low a.sum.high a.sum.low a.pri
 
 pub overflow_sub-result-2 : goal.overflow_sub-result-2
 unfolding wide_of
-overflow_sub-result-2 c = let a = c.args in (less_high a.sum.high a.sum.low a.price c.if-price-sum.false (price_fits c.before.before) c.requires).0
+overflow_sub-result-2 c = let a = c.args in (less_high a.sum.high a.sum.low a.price c.if-price-sum.false ((let h : c.args.price < 2 ^ 64 = search rules in h)) c.requires).0
 
 pub returns : goal.returns
 unfolding wide_of
-returns c = let a = c.args in (less_high a.sum.high a.sum.low a.price c.if-price-sum.false (price_fits c.before.before) c.requires).1
+returns c = let a = c.args in (less_high a.sum.high a.sum.low a.price c.if-price-sum.false ((let h : c.args.price < 2 ^ 64 = search rules in h)) c.requires).1

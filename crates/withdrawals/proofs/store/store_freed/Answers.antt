@@ -15,32 +15,17 @@ use Rattle.record_read.proofs.Records.{contents_looked}
 use Rattle.record_write.proofs.Stores.{over_whole}
 use Rattle.withdrawals.specs.Freed.{freed_parts}
 use Rattle.withdrawals.proofs.store.store_freed.Goals as goal
-use Rattle.withdrawals.proofs.store.store_freed.Goals.{After-read_contents-c, After-u64_at-price}
-
--- what was read is what stands in the record
-read_is : (c : After-read_contents-c) → contents_of c.read_contents-c.result ≡ contents_in (record_at c.before.before.before.before.args.series c.before.before.before.before.args.book.now)
-read_is c =
-    let s = c.before.before in
-    c.read_contents-c.ensures ∙ contents_looked s.args.book.now s.args.series s.requires.allowed
-
-price_is : (c : After-u64_at-price) → c.u64_at-price.result ≡ get_or (prices_in (record_at c.before.before.before.before.before.before.before.args.series c.before.before.before.before.before.before.before.args.book.now)) c.before.before.before.before.before.before.before.args.slot 0
-price_is c =
-    let s = c.before.before.before.before in
-    let a = s.args in
-    c.u64_at-price.ensures
-    ∙ ap (λ (x : Bytes). unsigned_at x (slot_prices_at + 8 * a.slot) 8) (part_is a.series a.book.now)
-    ∙ sym (price_at_lem (record_at a.series a.book.now) a.slot s.requires.one_of)
 
 pub slice_bounds-read_contents-end : goal.slice_bounds-read_contents-end
-slice_bounds-read_contents-end c = omega (arith, allowed-book c.before.before.args.book.now c.before.before.args.series c.before.before.requires.allowed)
+slice_bounds-read_contents-end c = omega (arith, allowed-book c.args.book.now c.args.series c.requires.allowed)
 
 pub freed-next-requires : goal.freed-next-requires
 unfolding stored_of
 freed-next-requires c =
-    let e = ap (λ (x : Held). x.parts) (read_is c.before.before.before) in (
+    let e = ap (λ (x : Held). x.parts) ((let h : contents_of c.read_contents-c.result ≡ contents_in (record_at c.args.series c.args.book.now) = let s = c.before.before in c.read_contents-c.ensures ∙ contents_looked s.args.book.now s.args.series s.requires.allowed in h)) in (
       c.requires.one_of,
       subst (λ (x : Parts). 2 ^ c.args.slot ≤ x.bits) (sym e) c.requires.in_bits,
-      subst (λ (x : Parts). c.freed-arg-1.result ≤ x.sum) (sym e) (subst (λ (x : ℕ). x ≤ (parts_in (record_at c.args.series c.args.book.now)).sum) (sym (price_is c)) c.requires.in_sum),
+      subst (λ (x : Parts). c.u64_at-price.result ≤ x.sum) (sym e) (subst (λ (x : ℕ). x ≤ (parts_in (record_at c.args.series c.args.book.now)).sum) (sym ((let h : c.u64_at-price.result ≡ get_or (prices_in (record_at c.args.series c.args.book.now)) c.args.slot 0 = let s = c.before.before.before.before in let a = s.args in c.u64_at-price.ensures ∙ ap (λ (x : Bytes). unsigned_at x (slot_prices_at + 8 * a.slot) 8) (part_is a.series a.book.now) ∙ sym (price_at_lem (record_at a.series a.book.now) a.slot s.requires.one_of) in h))) c.requires.in_sum),
     )
 
 pub returns : goal.returns
@@ -49,9 +34,9 @@ returns c =
     let book = a.book.now in
     let r = record_at a.series book in
     let f = c.ranges.now in
-    let h = read_is c.before.before.before.before.before.before.before.before in
-    let next = simp to_z-of_z at c.write_open-arg-2-1.ensures in
-    let price = price_is c.before.before.before.before.before in
+    let h = (let h : contents_of c.read_contents-c.result ≡ contents_in (record_at c.args.series c.args.book.now) = let s = c.before.before in c.read_contents-c.ensures ∙ contents_looked s.args.book.now s.args.series s.requires.allowed in h) in
+    let next = simp to_z-of_z at c.freed-next.ensures in
+    let price = (let h : c.u64_at-price.result ≡ get_or (prices_in (record_at c.args.series c.args.book.now)) c.args.slot 0 = let s = c.before.before.before.before in let a = s.args in c.u64_at-price.ensures ∙ ap (λ (x : Bytes). unsigned_at x (slot_prices_at + 8 * a.slot) 8) (part_is a.series a.book.now) ∙ sym (price_at_lem (record_at a.series a.book.now) a.slot s.requires.one_of) in h) in
     put_is a.series c.write_open.new.part book
     ∙ ap (λ (x : Bytes). replaced a.series x book)
     (c.write_open.ensures ∙ over_whole (part_at a.series book) _ (allowed-part book a.series c.requires.allowed)
