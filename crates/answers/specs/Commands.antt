@@ -1,6 +1,5 @@
 -- A command of a series given by itself: 35, 34 and 11 come before the command's own answer.
-use Rattle.std.specs.Prelude.{ℕ, ◌≡◌, eqb}
-use Rattle.rules.specs.Log.{if◌then◌else◌}
+use Rattle.std.specs.Prelude.{ℕ, ◌≡◌, eqb, if◌then◌else◌}
 use Rattle.rules.specs.Bytes.{Bytes}
 use Rattle.rules.specs.Answers.{Answer, Opened, Used, Wait, Settle, Done, Refused}
 use Rattle.rules.specs.Series.{Command}

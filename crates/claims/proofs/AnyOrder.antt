@@ -1,4 +1,5 @@
 -- What the prints of one feed leave in an empty place, in whatever order they came.
+use Rattle.std.specs.Prelude.{if◌then◌else◌}
 use Prim.Native.Nat.{ℕ, ◌≤◌}
 use mathlib.Core.Path.{◌≡◌, refl, sym, ap, ◌∙◌}
 use mathlib.Core.Bool.{Bool, true, false}
@@ -15,7 +16,7 @@ use Rattle.rules.proofs.Fields.{command_fits, ledger-fits}
 use Rattle.rules.proofs.Posted.{used-offered, unfrozen}
 use Rattle.rules.proofs.AnyOrder.{any_order, chains_alike, one-outcome, one-price}
 use Rattle.rules.proofs.Arrival.{bytes_apart, chain-bytes, told}
-use Rattle.rules.specs.Log.{Log, ε, ◌▹◌, Among, if◌then◌else◌, maybe, size, all}
+use Rattle.rules.specs.Log.{Log, ε, ◌▹◌, Among, maybe, size, all}
 use Rattle.rules.specs.Bytes.{Bytes, are_bytes, zeros}
 use Rattle.rules.specs.Answers.{ok, Method, Settle}
 use Rattle.rules.specs.Prints.{Quote}

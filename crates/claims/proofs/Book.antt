@@ -1,4 +1,5 @@
 -- The book's bytes after any list, and the answers.
+use Rattle.std.specs.Prelude.{if◌then◌else◌}
 use Prim.Native.Nat.{ℕ, zero, suc, ◌+◌, ◌*◌, ◌<◌}
 use mathlib.Core.Path.{◌≡◌, refl, sym, ap, ap₂, ◌∙◌, fun_ext}
 use mathlib.Core.Bool.{Bool, true, false}
@@ -14,7 +15,7 @@ use borrow.Author.Tests.{ltb-true, eq-eqb, eqb-true, eqb-false, ne_eqb}
 use Rattle.rules.proofs.Bools.{both}
 use Rattle.rules.proofs.Fields.{command_fits}
 use Rattle.rules.proofs.Record.{ledger-stored}
-use Rattle.rules.specs.Log.{Log, ε, ◌▹◌, if◌then◌else◌, maybe, all}
+use Rattle.rules.specs.Log.{Log, ε, ◌▹◌, maybe, all}
 use Rattle.rules.specs.Bytes.{Bytes, are_bytes, zeros, bytes}
 use Rattle.rules.specs.Answers.{ok}
 use Rattle.rules.specs.State.{parts_of}

@@ -1,4 +1,5 @@
 -- What holds of the books that members bring in.
+use Rattle.std.specs.Prelude.{if◌then◌else◌}
 use Prim.Native.Nat.{ℕ, ◌*◌, ◌<◌, ◌≤◌}
 use mathlib.Core.Path.{◌≡◌, refl, sym, ap, ◌∙◌}
 use mathlib.Core.Bool.{Bool, true, false, ◌&&◌}
@@ -13,7 +14,7 @@ use Rattle.rules.proofs.Bytes.{drop-bytes, take-bytes}
 use Rattle.rules.proofs.Fields.{command_fits}
 use Rattle.rules.proofs.Leaves.{step-leaves}
 use Rattle.rules.proofs.Read.{stored_is, read_sound, read_fits}
-use Rattle.rules.specs.Log.{if◌then◌else◌, maybe, every}
+use Rattle.rules.specs.Log.{maybe, every}
 use Rattle.rules.specs.Bytes.{Bytes, are_bytes, all_zero, unsigned_at}
 use Rattle.rules.specs.Answers.{ok, Refused}
 use Rattle.rules.specs.Terms.{terms_tests, good_terms}

@@ -1,11 +1,12 @@
 -- Demand 3 holds.
+use Rattle.std.specs.Prelude.{if◌then◌else◌}
 use mathlib.Core.Path.{◌≡◌, refl}
 use mathlib.Core.Bool.{Bool, true, false}
 use mathlib.Core.Option.{Option, none, some}
 use Rattle.rules.proofs.Bools.{both}
 use Rattle.rules.proofs.Series.{ledger-empty}
 use Rattle.rules.proofs.Prices.{FairAnswer, opened, used, wait, fair, void, done, refusal, answers_fair}
-use Rattle.rules.specs.Log.{Log, ε, ◌▹◌, if◌then◌else◌, all}
+use Rattle.rules.specs.Log.{Log, ε, ◌▹◌, all}
 use Rattle.rules.specs.Bytes.{Bytes, are_bytes}
 use Rattle.rules.specs.Answers.{Answer, Opened, Refused}
 use Rattle.rules.specs.Terms.{good_terms}

@@ -1,4 +1,5 @@
 -- An entry of bytes is a command that fits its fields, for one of the 64 series; and the ledgers after one more entry.
+use Rattle.std.specs.Prelude.{if◌then◌else◌}
 use Prim.Native.Nat.{ℕ}
 use mathlib.Core.Path.{◌≡◌, refl, fun_ext}
 use mathlib.Core.Bool.{Bool, true, false, ◌&&◌}
@@ -11,7 +12,7 @@ use Rattle.rules.proofs.Logs.{all_mono, all-put}
 use Rattle.rules.proofs.Bytes.{unsigned_fits, signed-fits_8, signed-fits_1}
 use Rattle.rules.proofs.Series.{in_range, after-ledger}
 use Rattle.rules.proofs.Fields.{command_fits}
-use Rattle.rules.specs.Log.{Log, ε, ◌▹◌, if◌then◌else◌, maybe, put, all}
+use Rattle.rules.specs.Log.{Log, ε, ◌▹◌, maybe, put, all}
 use Rattle.rules.specs.Bytes.{Bytes, are_bytes, unsigned_at, fits_unsigned, fits}
 use Rattle.rules.specs.Series.{Command, Open, Offer, Ask, Fix, Withdraw, Series, after}
 use Rattle.rules.specs.Record.{series_count, opening_fits}

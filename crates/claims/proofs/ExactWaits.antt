@@ -1,4 +1,5 @@
 -- A Wait on a record or a book of any origin is exact, and any other answer stays.
+use Rattle.std.specs.Prelude.{if◌then◌else◌}
 use Prim.Native.Nat.{ℕ, ◌<◌}
 use mathlib.Core.Path.{◌≡◌, refl, sym, ap, ap₂, ◌∙◌}
 use mathlib.Core.Bool.{Bool, true, false, ◌||◌}
@@ -7,7 +8,6 @@ use lib.ListN.{length}
 use lib.IntN.{ℤ}
 use lib.Dec.{eqb}
 use Rattle.rules.proofs.Asked.{Timed, timed_exact, timed_for_good, refused_always, ask_timed, decision_exact}
-use Rattle.rules.specs.Log.{if◌then◌else◌}
 use Rattle.rules.specs.Bytes.{Bytes, fits}
 use Rattle.rules.specs.Answers.{Answer, Opened, Used, Wait, Settle, Done, Refused, is_refused}
 use Rattle.rules.specs.Exact.{Exact, ForGood}

@@ -1,4 +1,5 @@
 -- A refusal and an ask change no byte. An entry changes no byte of another series' record, and not the length of the book.
+use Rattle.std.specs.Prelude.{if◌then◌else◌}
 use Prim.Native.Nat.{ℕ, ◌+◌, ◌*◌, ◌-◌, ◌<◌, ◌≤◌}
 use mathlib.Core.Path.{◌≡◌, refl, sym, ap, ◌∙◌}
 use mathlib.Core.Bool.{Bool, true, false}
@@ -11,7 +12,7 @@ use lib.Dec.{ltb, eqb}
 use lib.Arith.{lt_of_le-ne}
 use borrow.Author.Tests.{ltb-true, ltb-false, eqb-true, eq-eqb}
 use Rattle.rules.proofs.Bools.{both, not_both}
-use Rattle.rules.specs.Log.{if◌then◌else◌, is_some, maybe}
+use Rattle.rules.specs.Log.{is_some, maybe}
 use Rattle.rules.specs.Bytes.{Bytes}
 use Rattle.rules.specs.Answers.{Result, ok, refused, is_refused}
 use Rattle.rules.specs.Series.{Command, Series, step, changed}

@@ -1,4 +1,5 @@
 -- Each acceptable record has one byte form: what was read from it writes back as the same bytes.
+use Rattle.std.specs.Prelude.{if◌then◌else◌}
 use Prim.Native.Nat.{ℕ, ◌+◌, ◌/◌, ◌%◌, ◌^◌, ◌≤◌, ◌<◌}
 use mathlib.Core.Path.{◌≡◌, refl, sym, ap, ap₂, ◌∙◌}
 use mathlib.Core.Bool.{Bool, true, false, ◌&&◌}
@@ -15,7 +16,7 @@ use Rattle.rules.proofs.Record.{outcome_stands, written_read, order_tag}
 use Rattle.rules.proofs.Bytes.{drop-bytes, all_zero_lem, field_back, word-signed, little-below}
 use Rattle.rules.proofs.SlotPrices.{prices-back}
 use Rattle.rules.proofs.Read.{stored_is}
-use Rattle.rules.specs.Log.{if◌then◌else◌, every}
+use Rattle.rules.specs.Log.{every}
 use Rattle.rules.specs.Bytes.{Bytes, are_bytes, zeros, all_zero, concat, unsigned_at, signed_at, bytes, word, signed_bytes}
 use Rattle.rules.specs.Answers.{ok, method, Answer}
 use Rattle.rules.specs.State.{Parts, candidates_of, parts_of, good_state}

@@ -1,4 +1,5 @@
 -- An open series asked after a list, with other entries between the asks.
+use Rattle.std.specs.Prelude.{if◌then◌else◌}
 use Prim.Native.Nat.{ℕ, suc, ◌<◌, ◌^◌}
 use mathlib.Core.Path.{◌≡◌, refl, sym, ap, ◌∙◌}
 use mathlib.Core.Bool.{Bool, true, false, not, ◌&&◌, ◌||◌}
@@ -13,7 +14,7 @@ use Rattle.rules.proofs.Bytes.{bytes_are, little-bytes, signed_word, word_below}
 use Rattle.rules.proofs.Series.{opening_good, ledger-live}
 use Rattle.rules.proofs.Fields.{opening-fits}
 use Rattle.rules.proofs.Waits.{Decides, stays, waits, three_waits_lem}
-use Rattle.rules.specs.Log.{Log, ε, ◌▹◌, if◌then◌else◌, is_some, all}
+use Rattle.rules.specs.Log.{Log, ε, ◌▹◌, is_some, all}
 use Rattle.rules.specs.Bytes.{Bytes, are_bytes, signed, unsigned_at, signed_at, bytes, word, fits}
 use Rattle.rules.specs.Answers.{Result, ok, refused, Answer, Opened, Used, Wait, Settle, Done, Refused, is_used, is_refused}
 use Rattle.rules.specs.Terms.{slots, good_terms}

@@ -1,6 +1,6 @@
 -- 02, #111: a book that a member brings in, whatever made its bytes.
-use Rattle.std.specs.Prelude.{ℕ, ◌<◌, ◌≤◌, ◌≡◌, Bool, true, false, List, ◌∷◌, ◌++◌, length, eqb}
-use Rattle.rules.specs.Log.{if◌then◌else◌, every}
+use Rattle.std.specs.Prelude.{ℕ, ◌<◌, ◌≤◌, ◌≡◌, Bool, true, false, List, ◌∷◌, ◌++◌, length, eqb, if◌then◌else◌}
+use Rattle.rules.specs.Log.{every}
 use Rattle.rules.specs.Bytes.{Bytes, are_bytes, all_zero, unsigned_at}
 use Rattle.rules.specs.Answers.{ok, Refused}
 use Rattle.rules.specs.Terms.{terms_tests}

@@ -1,7 +1,6 @@
 -- The stored parts, read as the rules' parts.
-use Rattle.std.specs.Prelude.{ℕ, zero, suc, ◌+◌, ◌*◌, ◌-◌, ◌^◌, Bool, true, ◌&&◌, ◌||◌, List, get_or, ℤ, pos, ltb, eqb}
+use Rattle.std.specs.Prelude.{ℕ, zero, suc, ◌+◌, ◌*◌, ◌-◌, ◌^◌, Bool, true, ◌&&◌, ◌||◌, List, get_or, ℤ, pos, ltb, eqb, if◌then◌else◌}
 use Rattle.std.specs.Int.Signed.{lt_z}
-use Rattle.rules.specs.Log.{if◌then◌else◌}
 use Rattle.rules.specs.Answers as R
 use Rattle.rules.specs.Prints.{eq_z}
 use Rattle.rules.specs.State.{Parts}

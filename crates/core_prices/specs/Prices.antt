@@ -1,6 +1,5 @@
 -- Prices, read as the rules' prices.
-use Rattle.std.specs.Prelude.{ℕ, ◌^◌, leb}
-use Rattle.rules.specs.Log.{if◌then◌else◌}
+use Rattle.std.specs.Prelude.{ℕ, ◌^◌, leb, if◌then◌else◌}
 use Rattle.rules.specs.Answers as R
 use Rattle.core_terms.specs.Errors.{number_of}
 use Rattle.core_prices.specs.declared.mean.PriceResult.{PriceResult}

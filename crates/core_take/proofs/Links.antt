@@ -1,21 +1,20 @@
 -- The link that a print is, by how many there are.
+use Rattle.std.specs.Prelude.{if◌then◌else◌}
 use Prim.Native.Nat.{ℕ, suc, ◌≤◌, ◌<◌}
 use mathlib.Core.Path.{◌≡◌, refl, ◌∙◌}
-use mathlib.Core.Bool.{Bool, true, false, ◌&&◌}
+use mathlib.Core.Bool.{Bool, true, false}
 use mathlib.Core.Option.{Option, none, some}
 use native.Mathlib.Omega.{arith}
 use borrow.Author.Tests.{ltb-true, leb-true, lt-ltb, le-ltb}
 use lib.Dec.{ltb}
 use lib.ListN.{get_or}
 use lib.IntN.{ℤ, pos}
-use lib.Signed.{lt_z, le_z}
-use Rattle.rules.specs.Log.{if◌then◌else◌, size, front}
+use Rattle.rules.specs.Log.{size, front}
 use Rattle.rules.specs.Terms.{Terms, terms_tests, good_terms}
-use Rattle.rules.specs.Prints.{Print, eq_z}
+use Rattle.rules.specs.Prints.{Print}
 use Rattle.rules.specs.Taking.{links, follows, is_link}
 use Rattle.rules.specs.State.{Parts, candidates_of}
 use Rattle.rules.proofs.Bools.{both, every_at}
-use Rattle.rules.proofs.Integers.{same, le_yes, le_refl}
 use Rattle.rules.proofs.Logs.{size-front}
 use Rattle.core_uses.specs.Uses.{first_link, later_link}
 use Rattle.core_take.specs.Placing.{link_use, linkable}

@@ -1,4 +1,5 @@
 -- A print's uses put together: the answer, and the parts after it.
+use Rattle.std.specs.Prelude.{if◌then◌else◌}
 use Prim.Native.Nat.{ℕ, zero, suc, ◌+◌, ◌*◌, ◌≤◌, ◌<◌, ◌^◌}
 use mathlib.Core.Path.{◌≡◌, refl, sym, ap, ◌∙◌}
 use mathlib.Core.Bool.{Bool, true, false, ◌||◌}
@@ -13,7 +14,7 @@ use lib.ListN.{length, get_or, set, length-set}
 use lib.Seq.{get_or-set_same, get_or-set_other, ext_get_or}
 use lib.IntN.{ℤ, pos, ◌-ℤ◌}
 use lib.Signed.{le_z}
-use Rattle.rules.specs.Log.{Log, ◌▹◌, if◌then◌else◌, is_some, maybe, size, nth, front}
+use Rattle.rules.specs.Log.{Log, ◌▹◌, is_some, maybe, size, nth, front}
 use Rattle.rules.specs.Bytes.{fits}
 use Rattle.rules.specs.Answers.{ok, refused, Answer, Used, Refused, is_used}
 use Rattle.rules.specs.Terms.{Terms, good_terms}

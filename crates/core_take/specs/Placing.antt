@@ -1,7 +1,7 @@
 -- The uses of a print one by one, and the parts after each.
-use Rattle.std.specs.Prelude.{ℕ, ◌+◌, ◌^◌, Bool, true, false, not, ◌&&◌, ◌||◌, set, ℤ, pos, ◌-ℤ◌, ltb}
+use Rattle.std.specs.Prelude.{ℕ, ◌+◌, ◌^◌, Bool, true, false, not, ◌&&◌, ◌||◌, set, ℤ, pos, ◌-ℤ◌, ltb, if◌then◌else◌}
 use Rattle.std.proofs.Math.Option.{Option, none, some}
-use Rattle.rules.specs.Log.{if◌then◌else◌, is_some, maybe, size}
+use Rattle.rules.specs.Log.{is_some, maybe, size}
 use Rattle.rules.specs.Bytes.{fits}
 use Rattle.rules.specs.Answers.{Result, ok, refused}
 use Rattle.rules.specs.Terms.{Terms}

@@ -1,6 +1,5 @@
 // Taking a print: the slot, the link and the fallback that it is used for.
-ghost use Rattle.std.specs.Prelude.{◌≡◌, true};
-ghost use Rattle.rules.specs.Log.{if◌then◌else◌};
+ghost use Rattle.std.specs.Prelude.{◌≡◌, true, if◌then◌else◌};
 ghost use Rattle.rules.specs.Answers.{is_used};
 ghost use Rattle.rules.specs.Terms.{good_terms};
 ghost use Rattle.rules.specs.Taking.{print_answer, place};

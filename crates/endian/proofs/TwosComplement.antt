@@ -1,4 +1,5 @@
 -- Two's complement, over the width: a number that is not negative is its own bits, and the complement of a negative one's bits is not negative.
+use Rattle.std.specs.Prelude.{if◌then◌else◌}
 use mathlib.Core.Path.{◌≡◌, refl, ap}
 use mathlib.Core.Bool.{Bool, true, false}
 use Prim.Native.Nat.{ℕ, suc, ◌-◌, ◌^◌, ◌≤◌, ◌<◌}
@@ -9,7 +10,6 @@ use lib.IntN.{ℤ, pos, negsuc, nat_abs}
 use lib.Signed.{le_z, non_neg}
 use mir.Syntax.{Width, w8, w16, w32, w64, w128}
 use mir.Val.{sel, Fits, SFits, bits, hbits, to_z, of_z}
-use Rattle.rules.specs.Log.{if◌then◌else◌}
 use Rattle.rules.specs.Bytes.{signed, word}
 use mir.Facts.{to_z-of_z, to_z_pos, Fits-of_lt}
 

@@ -1,7 +1,7 @@
 -- Answers as numbers.
-use Rattle.std.specs.Prelude.{ℕ}
+use Rattle.std.specs.Prelude.{ℕ, if◌then◌else◌}
 use Rattle.std.proofs.Math.Option.{Option}
-use Rattle.rules.specs.Log.{if◌then◌else◌, maybe}
+use Rattle.rules.specs.Log.{maybe}
 use Rattle.rules.specs.Bytes.{word}
 use Rattle.rules.specs.Answers.{Result, ok, refused, number, Answer, Opened, Used, Wait, Settle, Done, Refused}
 use Rattle.rules.specs.Prints.{Print}

@@ -2,11 +2,10 @@
 // acceptance, 255 says that there is none.
 #![tactic(auto)]
 
-ghost use Rattle.std.specs.Prelude.{◌≡◌, ◌+◌, ◌*◌, ◌^◌};
+ghost use Rattle.std.specs.Prelude.{◌≡◌, ◌+◌, ◌*◌, ◌^◌, if◌then◌else◌};
 ghost use Rattle.rules.specs.Mean.{mean};
 ghost use Rattle.rules.specs.Prints.{accept};
 ghost use Rattle.core_prices.specs.Prints.{print_result_of, quote_at};
-ghost use Rattle.rules.specs.Log.{if◌then◌else◌};
 ghost use Rattle.rules.specs.Book.{answer_to, book_after};
 ghost use Rattle.core_uses.specs.Uses.{index_of};
 ghost use Rattle.entries.specs.Codes.{code_of, stored_price, stored_amount, place_code, answer_code, first_after, second_after, third_after};

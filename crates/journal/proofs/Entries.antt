@@ -1,4 +1,5 @@
 -- The entries of a part: its first width, and where it goes on.
+use Rattle.std.specs.Prelude.{if◌then◌else◌}
 use Prim.Native.Nat.{ℕ, zero, suc, ◌+◌, ◌*◌, ◌≤◌, ◌<◌}
 use mathlib.Core.Path.{◌≡◌, refl, sym, ap, ◌∙◌}
 use mathlib.Core.Bool.{Bool, true, false}
@@ -8,7 +9,6 @@ use lib.Dec.{leb, eqb}
 use lib.ListN.{length, get_or, take, drop, length-append, length-drop}
 use lib.Seq.{length-take-le, take-append-le, drop-append-le, drop-drop}
 use borrow.Author.Tests.{leb-true, leb-false, le-leb, eqb-true, eqb-false, ne_eqb}
-use Rattle.rules.specs.Log.{if◌then◌else◌}
 use Rattle.rules.specs.Bytes.{Bytes, concat}
 use Rattle.rules.specs.Entries.{width}
 use Rattle.rules.proofs.Bools.{not_both}

@@ -1,4 +1,5 @@
 -- What a caller of `feed` can count on: nothing is taken or written past an end, and with room enough every entry is given.
+use Rattle.std.specs.Prelude.{if◌then◌else◌}
 use Prim.Native.Nat.{ℕ, ◌+◌, ◌*◌, ◌-◌, ◌≤◌, ◌<◌}
 use mathlib.Core.Path.{◌≡◌, refl, ap}
 use mathlib.Core.Bool.{Bool, true, false}
@@ -8,7 +9,6 @@ use lib.Dec.{leb, ltb}
 use lib.ListN.{length, length-append, length-drop}
 use borrow.Author.Tests.{leb-true, ltb-true, ltb-false}
 use Rattle.rules.proofs.Bools.{both}
-use Rattle.rules.specs.Log.{if◌then◌else◌}
 use Rattle.rules.specs.Bytes.{Bytes, concat}
 use Rattle.rules.specs.Book.{book_after}
 use Rattle.rules.specs.Journal.{line_to}

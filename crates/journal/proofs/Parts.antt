@@ -1,4 +1,5 @@
 -- A journal read in parts, wherever it is cut.
+use Rattle.std.specs.Prelude.{if◌then◌else◌}
 use Prim.Native.Nat.{◌+◌, ◌*◌, ◌≤◌}
 use mathlib.Core.Path.{◌≡◌, refl, sym, ap, ◌∙◌}
 use mathlib.Core.Bool.{Bool, true, false, ◌||◌}
@@ -7,7 +8,7 @@ use native.Mathlib.Omega.{arith}
 use lib.Dec.{eqb}
 use lib.ListN.{length, take, drop, length-append}
 use lib.Seq.{sets, sets-eq, take-append_seam, drop-append-le, drop-drop}
-use Rattle.rules.specs.Log.{Log, ε, ◌▹◌, puts, if◌then◌else◌}
+use Rattle.rules.specs.Log.{Log, ε, ◌▹◌, puts}
 use Rattle.rules.specs.Bytes.{Bytes, zeros, concat}
 use Rattle.rules.specs.Record.{book_size}
 use Rattle.rules.specs.Book.{book_after, run}

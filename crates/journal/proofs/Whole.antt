@@ -1,4 +1,5 @@
 -- A whole journal.
+use Rattle.std.specs.Prelude.{if◌then◌else◌}
 use Prim.Native.Nat.{ℕ, zero, suc, ◌≤◌}
 use mathlib.Core.Path.{◌≡◌, refl, ap}
 use mathlib.Core.Bool.{Bool, true, false}
@@ -8,7 +9,7 @@ use lib.Dec.{leb, eqb}
 use lib.ListN.{length, take, drop, drop_of_length-le}
 use lib.Seq.{take_all}
 use borrow.Author.Tests.{lt-ltb, le-ltb, leb-false, eqb-true, eqb-false, ne_eqb}
-use Rattle.rules.specs.Log.{Log, ε, ◌▹◌, puts, all, if◌then◌else◌}
+use Rattle.rules.specs.Log.{Log, ε, ◌▹◌, puts, all}
 use Rattle.rules.specs.Bytes.{Bytes, are_bytes}
 use Rattle.rules.specs.Entries.{width}
 use Rattle.rules.specs.Journal.{is_known, commands_in, journal_entries}

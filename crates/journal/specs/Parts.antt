@@ -1,6 +1,6 @@
 -- A journal that is read in parts, wherever it is cut: what a reader has after each of them.
-use Rattle.std.specs.Prelude.{◌<◌, ◌≡◌, Bool, true, false, [], ◌++◌, length, drop}
-use Rattle.rules.specs.Log.{Log, ε, ◌▹◌, if◌then◌else◌}
+use Rattle.std.specs.Prelude.{◌<◌, ◌≡◌, Bool, true, false, [], ◌++◌, length, drop, if◌then◌else◌}
+use Rattle.rules.specs.Log.{Log, ε, ◌▹◌}
 use Rattle.rules.specs.Bytes.{Bytes, zeros, concat}
 use Rattle.rules.specs.Record.{book_size}
 use Rattle.rules.specs.Book.{run}

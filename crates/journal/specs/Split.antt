@@ -1,6 +1,5 @@
 -- A journal may come in parts. A command may be cut by the end of a part, and only the last part has a short tail.
-use Rattle.std.specs.Prelude.{ℕ, zero, suc, Bool, List, [], ◌∷◌, length, take, drop, leb, eqb}
-use Rattle.rules.specs.Log.{if◌then◌else◌}
+use Rattle.std.specs.Prelude.{ℕ, zero, suc, Bool, List, [], ◌∷◌, length, take, drop, leb, eqb, if◌then◌else◌}
 use Rattle.rules.specs.Bytes.{Bytes}
 use Rattle.rules.specs.Entries.{width}
 

@@ -1,7 +1,6 @@
 // The sheet of a whole journal.
-ghost use Rattle.std.specs.Prelude.{◌≤◌, ◌≡◌, length};
+ghost use Rattle.std.specs.Prelude.{◌≤◌, ◌≡◌, length, if◌then◌else◌};
 ghost use Rattle.std.proofs.lemmas.List.Edits.{sets};
-ghost use Rattle.rules.specs.Log.{if◌then◌else◌};
 ghost use Rattle.rules.specs.Journal.{journal_entries, sheet};
 ghost use Rattle.claims.specs.Demand3.{Demand3};
 ghost use Rattle.journal.specs.Whole.{has_room};

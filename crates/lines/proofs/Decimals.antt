@@ -1,4 +1,5 @@
 -- Numbers in decimal: the last digit and those ahead of it, and how many there are.
+use Rattle.std.specs.Prelude.{if◌then◌else◌}
 use Prim.Native.Nat.{ℕ, zero, suc, ◌+◌, ◌-◌, ◌/◌, ◌%◌, ◌^◌, ◌≤◌, ◌<◌}
 use mathlib.Core.Path.{◌≡◌, refl, sym, ap, ◌∙◌}
 use mathlib.Core.Bool.{Bool, true, false}
@@ -14,7 +15,6 @@ use lib.Signed.{le_z, non_neg}
 use mir.Syntax.{w64}
 use mir.Val.{Fits, SFits, bool_byte, to_z, of_z}
 use mir.Facts.{to_z-of_z}
-use Rattle.rules.specs.Log.{if◌then◌else◌}
 use Rattle.rules.specs.Bytes.{Bytes}
 use Rattle.rules.specs.Lines.{digits, decimal, signed_decimal, flag}
 use Rattle.rules.proofs.Integers.{apart, difference_law, le_yes, le_no, abs_is}

@@ -1,7 +1,6 @@
 // The line of text of an answer.
-ghost use Rattle.std.specs.Prelude.{◌+◌, ◌≤◌, ◌≡◌, [], ◌∷◌, ◌++◌, ltb, length};
+ghost use Rattle.std.specs.Prelude.{◌+◌, ◌≤◌, ◌≡◌, [], ◌∷◌, ◌++◌, ltb, length, if◌then◌else◌};
 ghost use Rattle.std.proofs.lemmas.List.Edits.{sets};
-ghost use Rattle.rules.specs.Log.{if◌then◌else◌};
 ghost use Rattle.rules.specs.Answers.{Used, Wait, Settle};
 ghost use Rattle.rules.specs.Lines.{ascii, decimal, index, after_word, line};
 ghost use Rattle.answers.specs.Answers.{answer_of};

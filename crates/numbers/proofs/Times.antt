@@ -1,4 +1,5 @@
 -- What the calls on times say, by their answer.
+use Rattle.std.specs.Prelude.{if◌then◌else◌}
 use Prim.Native.Nat.{ℕ, ◌+◌, ◌^◌}
 use mathlib.Core.Path.{◌≡◌, refl}
 use mathlib.Core.Bool.{Bool, true, false}
@@ -8,7 +9,6 @@ use lib.IntN.{ℤ, nat_abs, ◌-ℤ◌}
 use lib.Signed.{mag, lt_z}
 use mir.Syntax.{w64}
 use mir.Val.{SFits}
-use Rattle.rules.specs.Log.{if◌then◌else◌}
 use Rattle.rules.specs.Bytes.{fits}
 use Rattle.rules.specs.Decision.{max_z}
 use Rattle.rules.proofs.Integers.{up, dn, apart, abs_is, difference_law, lt_no}

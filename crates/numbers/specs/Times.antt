@@ -1,7 +1,6 @@
 -- Times as whole numbers, where they fit an i64.
-use Rattle.std.specs.Prelude.{ℤ, nat_abs, ◌-ℤ◌}
+use Rattle.std.specs.Prelude.{ℤ, nat_abs, ◌-ℤ◌, if◌then◌else◌}
 use Rattle.std.specs.Int.Signed.{lt_z}
-use Rattle.rules.specs.Log.{if◌then◌else◌}
 use Rattle.rules.specs.Bytes.{fits}
 use Rattle.numbers.specs.declared.time.Time.{Time}
 use Rattle.numbers.specs.declared.time.Time.TheVariants.{At, Overflow}

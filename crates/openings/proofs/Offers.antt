@@ -1,4 +1,5 @@
 -- What an offer answers and leaves where the core tests the terms and the state.
+use Rattle.std.specs.Prelude.{if◌then◌else◌}
 use Prim.Native.Nat.{ℕ, ◌*◌}
 use mathlib.Core.Path.{◌≡◌, refl, sym, ap, ◌∙◌}
 use mathlib.Core.Bool.{Bool, true, false, not, ◌&&◌}
@@ -7,7 +8,6 @@ use mathlib.Core.List.{List}
 use lib.IntN.{ℤ, pos, negsuc, nat_abs}
 use lib.Signed.{le_z}
 use lib.Dec.{ltb}
-use Rattle.rules.specs.Log.{if◌then◌else◌}
 use Rattle.rules.specs.Bytes.{Bytes, word}
 use Rattle.rules.specs.Answers.{Result, ok, refused, Answer, Used, Refused, is_used}
 use Rattle.rules.specs.Terms.{good_terms}

@@ -1,4 +1,5 @@
 -- The test of the slot prices, one slot after the other and then by pairs, from the last down.
+use Rattle.std.specs.Prelude.{if◌then◌else◌}
 use Prim.Native.Nat.{ℕ, suc, ◌+◌, ◌*◌, ◌-◌, ◌/◌, ◌%◌, ◌^◌, ◌≤◌, ◌<◌}
 use mathlib.Core.Path.{◌≡◌, refl, sym, ap, ◌∙◌}
 use mathlib.Core.Bool.{Bool, true, false, ◌&&◌, beq}
@@ -14,7 +15,7 @@ use borrow.Author.Tests.{eq-eqb, ne_eqb, eqb-true, eqb-false}
 use Rattle.rules.proofs.Bools.{both, not_both, and_true, and_false, and_assoc, either_below}
 use Rattle.rules.proofs.Bytes.{drop-bytes, little-below}
 use Rattle.rules.proofs.SlotPrices.{price_at_lem}
-use Rattle.rules.specs.Log.{if◌then◌else◌, Σ<, all<}
+use Rattle.rules.specs.Log.{Σ<, all<}
 use Rattle.rules.specs.Bytes.{Bytes, are_bytes, unsigned_at}
 use Rattle.rules.specs.Taking.{bit}
 use Rattle.rules.specs.State.{candidates_of}

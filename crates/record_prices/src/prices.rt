@@ -1,6 +1,5 @@
 // The slot prices of a record, held against its bits, its sum and the greatest price of a print.
-ghost use Rattle.std.specs.Prelude.{◌≡◌, ◌&&◌, ◌+◌, ◌*◌, ◌≤◌, ◌<◌, eqb, ltb, length};
-ghost use Rattle.rules.specs.Log.{if◌then◌else◌};
+ghost use Rattle.std.specs.Prelude.{◌≡◌, ◌&&◌, ◌+◌, ◌*◌, ◌≤◌, ◌<◌, eqb, ltb, length, if◌then◌else◌};
 ghost use Rattle.rules.specs.Brought.{low_slots};
 ghost use Rattle.rules.specs.Record.{record_size, good_prices, holdings_in};
 ghost use Rattle.numbers.specs.Wides.{wide_of};

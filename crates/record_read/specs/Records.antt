@@ -1,6 +1,5 @@
 -- What stands in a record.
-use Rattle.std.specs.Prelude.{ℕ, ℤ, pos, length, eqb}
-use Rattle.rules.specs.Log.{if◌then◌else◌}
+use Rattle.std.specs.Prelude.{ℕ, ℤ, pos, length, eqb, if◌then◌else◌}
 use Rattle.rules.specs.Bytes.{Bytes}
 use Rattle.rules.specs.Answers as R
 use Rattle.rules.specs.State.{Parts, parts_of}

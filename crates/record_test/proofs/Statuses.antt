@@ -1,4 +1,5 @@
 -- What is stored in a record, by its tag and the tests that the code makes.
+use Rattle.std.specs.Prelude.{if◌then◌else◌}
 use Prim.Native.Nat.{ℕ, zero, suc, ◌≤◌, ◌<◌}
 use mathlib.Core.Path.{◌≡◌, refl, sym, ap, ◌∙◌}
 use mathlib.Core.Bool.{Bool, true, false, not, ◌&&◌}
@@ -8,7 +9,7 @@ use lib.ListN.{length, take, drop, drop_of_length-le}
 use lib.IntN.{ℤ}
 use lib.Dec.{ltb, leb, eqb}
 use borrow.Author.Tests.{ltb-true, ltb-false, le-leb, lt-leb, eq-eqb, ne_eqb, eqb-true, eqb-false}
-use Rattle.rules.specs.Log.{if◌then◌else◌, every}
+use Rattle.rules.specs.Log.{every}
 use Rattle.rules.specs.Bytes.{Bytes, all_zero, little, unsigned_at}
 use Rattle.rules.specs.Answers.{ok, refused, Answer, Refused}
 use Rattle.rules.specs.Terms.{Terms, good_terms}

@@ -1,6 +1,6 @@
 -- What a record is found to be, and the decision on it.
-use Rattle.std.specs.Prelude.{ℕ, Bool, not, ◌&&◌, ℤ, length, ltb, eqb}
-use Rattle.rules.specs.Log.{if◌then◌else◌, every}
+use Rattle.std.specs.Prelude.{ℕ, Bool, not, ◌&&◌, ℤ, length, ltb, eqb, if◌then◌else◌}
+use Rattle.rules.specs.Log.{every}
 use Rattle.rules.specs.Bytes.{Bytes, all_zero, unsigned_at}
 use Rattle.rules.specs.Answers as R
 use Rattle.rules.specs.Terms.{good_terms}

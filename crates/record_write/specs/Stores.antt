@@ -1,7 +1,6 @@
 -- The fields of a record in the groups that are written, and a record over the bytes that are there.
-use Rattle.std.specs.Prelude.{ℕ, ◌+◌, ◌*◌, ◌&&◌, List, [], ◌∷◌, ◌++◌, ℤ, ltb, eqb, length}
+use Rattle.std.specs.Prelude.{ℕ, ◌+◌, ◌*◌, ◌&&◌, List, [], ◌∷◌, ◌++◌, ℤ, ltb, eqb, length, if◌then◌else◌}
 use Rattle.std.proofs.lemmas.List.Edits.{sets}
-use Rattle.rules.specs.Log.{if◌then◌else◌}
 use Rattle.rules.specs.Bytes.{Bytes, zeros, concat, bytes, signed_bytes}
 use Rattle.rules.specs.Terms.{Terms}
 use Rattle.rules.specs.State.{Parts}

@@ -1,9 +1,8 @@
 // A whole list of entries, given to one zeroed book.
 #![tactic(auto)]
 
-ghost use Rattle.std.specs.Prelude.{◌≡◌, min, eqb, length};
+ghost use Rattle.std.specs.Prelude.{◌≡◌, min, eqb, length, if◌then◌else◌};
 ghost use Rattle.std.proofs.Math.Option.{some};
-ghost use Rattle.rules.specs.Log.{if◌then◌else◌};
 ghost use Rattle.rules.specs.Bytes.{zeros};
 ghost use Rattle.rules.specs.Answers.{Refused};
 ghost use Rattle.rules.specs.Record.{book_size};

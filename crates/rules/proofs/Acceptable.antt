@@ -1,4 +1,5 @@
 -- The ledger's state passes `restore`'s test: 11 never comes of a book that began zeroed.
+use Rattle.std.specs.Prelude.{if◌then◌else◌}
 use Prim.Native.Nat.{ℕ, zero, suc, ◌+◌, ◌^◌, ◌<◌, ◌≤◌}
 use mathlib.Core.Path.{◌≡◌, refl, sym, ◌∙◌}
 use mathlib.Core.Bool.{Bool, true, false, ◌&&◌, beq}
@@ -20,7 +21,7 @@ use Rattle.rules.proofs.Series.{accept_facts, good_positive, taken-all, no_print
 use Rattle.rules.proofs.Brought.{good, times, left_by_prints_lem}
 use Rattle.rules.proofs.State.{parts-back, zeros-after}
 use Rattle.rules.proofs.Fields.{command_fits, event_fits, prints_small, chain-all, chain-size, bits_below, candidates_fit_lem, events_fit, freeze-fits, freeze-final}
-use Rattle.rules.specs.Log.{Log, ε, ◌▹◌, if◌then◌else◌, is_some, maybe, size, all, first, map, Σ<, every}
+use Rattle.rules.specs.Log.{Log, ε, ◌▹◌, is_some, maybe, size, all, first, map, Σ<, every}
 use Rattle.rules.specs.Answers.{final}
 use Rattle.rules.specs.Terms.{good_terms, slots}
 use Rattle.rules.specs.Prints.{Print, eq_z}

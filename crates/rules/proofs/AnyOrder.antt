@@ -1,4 +1,5 @@
 -- Two series that were posted the same prints of one feed hold the same slots and the same fallback, in whatever order the prints came.
+use Rattle.std.specs.Prelude.{if◌then◌else◌}
 use Prim.Native.Nat.{ℕ, ◌^◌, ◌<◌}
 use mathlib.Core.Path.{◌≡◌, refl, sym, ap, ap₂, ◌∙◌}
 use mathlib.Core.Bool.{Bool, true, false, not, ◌&&◌, ◌||◌}
@@ -18,7 +19,7 @@ use Rattle.rules.proofs.Outcome.{outcome, answer_beside}
 use Rattle.rules.proofs.Prices.{fair_is, answers_fair}
 use Rattle.rules.proofs.Feed.{Over, one_over}
 use Rattle.rules.proofs.Posted.{unfrozen, unfreed, Source, slot_source, fallback_source, chain_source, Taken, offer_taken}
-use Rattle.rules.specs.Log.{Log, ε, ◌▹◌, Among, here, ahead, if◌then◌else◌, maybe, size, all, map, total}
+use Rattle.rules.specs.Log.{Log, ε, ◌▹◌, Among, here, ahead, maybe, size, all, map, total}
 use Rattle.rules.specs.Answers.{ok, Method, Settle}
 use Rattle.rules.specs.Terms.{slots, good_terms}
 use Rattle.rules.specs.Prints.{Print, Quote, eq_z, accept}

@@ -1,4 +1,5 @@
 -- An ask of a record of any bytes: a Wait is exact, and every other answer stays.
+use Rattle.std.specs.Prelude.{if◌then◌else◌}
 use Prim.Native.Nat.{ℕ}
 use mathlib.Core.Path.{◌≡◌, refl, sym, ap, ◌∙◌}
 use mathlib.Core.Bool.{Bool, true, false}
@@ -9,7 +10,7 @@ use Rattle.rules.proofs.Bytes.{signed-fits_8}
 use Rattle.rules.proofs.Waits.{Decides, no_wait, exact, for_good, three_waits_lem}
 use Rattle.rules.proofs.Record.{outcome_stands}
 use Rattle.rules.proofs.Read.{fixed_in, by_tag}
-use Rattle.rules.specs.Log.{if◌then◌else◌, every}
+use Rattle.rules.specs.Log.{every}
 use Rattle.rules.specs.Bytes.{Bytes}
 use Rattle.rules.specs.Answers.{ok, refused, Answer, Wait, Refused, final}
 use Rattle.rules.specs.Exact.{Exact, ForGood}

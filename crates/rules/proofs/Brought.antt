@@ -1,4 +1,5 @@
 -- What prints always leave: the ledger's holdings pass #111's tests. And the last of these follows from the others.
+use Rattle.std.specs.Prelude.{if◌then◌else◌}
 use Prim.Native.Nat.{ℕ, suc, ◌*◌, ◌<◌, ◌≤◌, ◌^◌}
 use mathlib.Core.Path.{◌≡◌, refl}
 use mathlib.Core.Bool.{Bool, true, false, not, ◌&&◌, ◌||◌}
@@ -19,7 +20,7 @@ use Rattle.rules.proofs.Bits.{no_bits}
 use Rattle.rules.proofs.Place.{of_prints, prints-all, holder-all, small, candidates-bit, no_bit}
 use Rattle.rules.proofs.Series.{good_positive}
 use Rattle.rules.proofs.Fields.{chain-all}
-use Rattle.rules.specs.Log.{Log, ε, ◌▹◌, if◌then◌else◌, is_some, maybe, size, all, last, map, every}
+use Rattle.rules.specs.Log.{Log, ε, ◌▹◌, is_some, maybe, size, all, last, map, every}
 use Rattle.rules.specs.Bytes.{fits}
 use Rattle.rules.specs.Prints.{Print, good_print, eq_z}
 use Rattle.rules.specs.Terms.{slots}

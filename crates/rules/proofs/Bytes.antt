@@ -1,4 +1,5 @@
 -- Numbers in bytes: reading and writing undo each other. One law for every width.
+use Rattle.std.specs.Prelude.{if◌then◌else◌}
 use Prim.Native.Nat.{ℕ, zero, suc, ◌+◌, ◌*◌, ◌-◌, ◌/◌, ◌%◌, ◌^◌, ◌<◌, ◌≤◌}
 use mathlib.Core.Path.{◌≡◌, refl, sym, ap, ap₂, ◌∙◌}
 use mathlib.Core.Bool.{Bool, true, false}
@@ -16,7 +17,6 @@ use mir.Val.{Fits}
 use borrow.Author.Tests.{ltb-true, lt-ltb, le-ltb, eqb-true}
 use Rattle.rules.proofs.Bools.{both}
 use Rattle.rules.proofs.Integers.{tests}
-use Rattle.rules.specs.Log.{if◌then◌else◌}
 use Rattle.rules.specs.Bytes.{Bytes, are_bytes, all_zero, little, signed, unsigned_at, signed_at, bytes, word, fits_unsigned, fits_signed, fits}
 
 -- ---- lists of bytes

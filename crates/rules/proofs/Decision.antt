@@ -1,4 +1,5 @@
 -- What holds of each step of the decision holds of the decision.
+use Rattle.std.specs.Prelude.{if◌then◌else◌}
 use Prim.Native.Nat.{ℕ}
 use mathlib.Core.Path.{◌≡◌, refl}
 use mathlib.Core.Bool.{Bool, true, false, not}
@@ -6,7 +7,7 @@ use mathlib.Core.List.{List, [], ◌∷◌}
 use lib.IntN.{ℤ, ◌+ℤ◌}
 use lib.Signed.{lt_z}
 use lib.Dec.{ltb}
-use Rattle.rules.specs.Log.{if◌then◌else◌, total}
+use Rattle.rules.specs.Log.{total}
 use Rattle.rules.specs.Bytes.{fits}
 use Rattle.rules.specs.Answers.{Result, ok, refused, Method, number, Answer, Opened, Used, Wait, Settle, Done, Refused}
 use Rattle.rules.specs.Terms.{Terms}

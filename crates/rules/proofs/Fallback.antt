@@ -1,4 +1,5 @@
 -- One more taken print: the first print with the greatest qualifying pub.
+use Rattle.std.specs.Prelude.{if◌then◌else◌}
 use mathlib.Core.Path.{◌≡◌, refl, sym, ◌∙◌}
 use mathlib.Core.Bool.{Bool, true, false, not, ◌&&◌, ◌||◌}
 use mathlib.Core.Option.{Option, none, some}
@@ -8,7 +9,7 @@ use borrow.Author.Tests.{not-true}
 use Rattle.rules.proofs.Bools.{both, and_true, and_false, or_true, drop-last}
 use Rattle.rules.proofs.Integers.{le_lt_trans, le_trans, lt_le, lt_true, lt_false, le_refl}
 use Rattle.rules.proofs.Logs.{all_mono, first_none, first_some, first_ext, first_stronger, or_else_none}
-use Rattle.rules.specs.Log.{Log, ε, ◌▹◌, if◌then◌else◌, maybe, first, all}
+use Rattle.rules.specs.Log.{Log, ε, ◌▹◌, maybe, first, all}
 use Rattle.rules.specs.Taking.{is_fallback}
 use Rattle.rules.specs.Series.{Opening}
 use Rattle.rules.specs.Ledger.{Posting, Event, prints, candidates, qualified, greatest, fallback}

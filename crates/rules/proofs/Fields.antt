@@ -1,4 +1,5 @@
 -- Every number of the ledger's record fits its field.
+use Rattle.std.specs.Prelude.{if◌then◌else◌}
 use Prim.Native.Nat.{ℕ, ◌*◌, ◌/◌, ◌%◌, ◌^◌, ◌<◌, ◌≤◌}
 use mathlib.Core.Path.{◌≡◌, refl, sym, ap, ◌∙◌}
 use mathlib.Core.Bool.{Bool, true, false, not, ◌||◌}
@@ -19,7 +20,7 @@ use Rattle.rules.proofs.Place.{held, held_small, held_pow, few_slots, few_links,
 use Rattle.rules.proofs.Series.{accept_facts, accept_small, taken-all, opening_good, no_freeze}
 use Rattle.rules.proofs.Decision.{decide_each}
 use Rattle.rules.proofs.State.{few_times}
-use Rattle.rules.specs.Log.{Log, ε, ◌▹◌, if◌then◌else◌, ◌or_else◌, maybe, size, total, all, last, last_at, map, every, list_from}
+use Rattle.rules.specs.Log.{Log, ε, ◌▹◌, ◌or_else◌, maybe, size, total, all, last, last_at, map, every, list_from}
 use Rattle.rules.specs.Bytes.{fits_unsigned, fits}
 use Rattle.rules.specs.Answers.{Result, ok, refused, Method, number, final}
 use Rattle.rules.specs.Terms.{good_terms, slots, good_exponent}

@@ -1,4 +1,5 @@
 -- How a journal splits into commands.
+use Rattle.std.specs.Prelude.{if◌then◌else◌}
 use Prim.Native.Nat.{ℕ, zero, suc, ◌≤◌, ◌<◌}
 use mathlib.Core.Path.{◌≡◌, refl, sym, ap, ◌∙◌}
 use mathlib.Core.Bool.{Bool, true, false, ◌&&◌}
@@ -8,7 +9,7 @@ use lib.Dec.{eqb}
 use lib.ListN.{length, take, drop, length-drop, drop_of_length-le}
 use lib.Seq.{take_all, take_at, drop_at}
 use borrow.Author.Tests.{lt-ltb, le-ltb, eqb-true}
-use Rattle.rules.specs.Log.{Log, ε, ◌▹◌, puts, if◌then◌else◌}
+use Rattle.rules.specs.Log.{Log, ε, ◌▹◌, puts}
 use Rattle.rules.specs.Bytes.{Bytes, concat}
 use Rattle.rules.specs.Entries.{width}
 use Rattle.rules.specs.Journal.{is_known, commands_in, journal_entries, are_commands}

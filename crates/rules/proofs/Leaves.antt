@@ -1,4 +1,5 @@
 -- Every command leaves an acceptable record where it finds one, whatever made that (#111).
+use Rattle.std.specs.Prelude.{if◌then◌else◌}
 use Prim.Native.Nat.{ℕ}
 use mathlib.Core.Path.{◌≡◌, refl, sym, ap, ◌∙◌}
 use mathlib.Core.Bool.{Bool, true, false, not, ◌&&◌}
@@ -16,7 +17,7 @@ use Rattle.rules.proofs.Record.{written-stored, ledger-stored}
 use Rattle.rules.proofs.Sound.{opening-fits, candidates_fit_lem, prices_fit_lem, slots_32}
 use Rattle.rules.proofs.Offer.{placed_fits, placed_sound}
 use Rattle.rules.proofs.Withdraw.{withdrawn-fits, withdrawn_sound}
-use Rattle.rules.specs.Log.{ε, ◌▹◌, if◌then◌else◌}
+use Rattle.rules.specs.Log.{ε, ◌▹◌}
 use Rattle.rules.specs.Bytes.{fits}
 use Rattle.rules.specs.Answers.{Result, ok, refused, Answer, Used, Refused, Done, final, is_used}
 use Rattle.rules.specs.Terms.{slots, good_terms}

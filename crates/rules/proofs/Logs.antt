@@ -1,4 +1,5 @@
 -- Facts about logs: first, last, all, map, and the first n of a list.
+use Rattle.std.specs.Prelude.{if◌then◌else◌}
 use Prim.Native.Nat.{ℕ, zero, suc, ◌+◌, ◌<◌, ◌≤◌}
 use mathlib.Core.Path.{◌≡◌, refl, sym, ap, ap₂, ◌∙◌, fun_ext}
 use mathlib.Core.Bool.{Bool, true, false, not, ◌&&◌}
@@ -11,7 +12,7 @@ use lib.Dec.{eqb}
 use lib.Arith.{lt_of_le-ne}
 use borrow.Author.Tests.{eq-eqb, ne_eqb, eqb-true, eqb-false}
 use Rattle.rules.proofs.Bools.{both, and_false}
-use Rattle.rules.specs.Log.{Log, ε, ◌▹◌, Among, here, ahead, if◌then◌else◌, ◌or_else◌, maybe, size, put, all, first, last, last_at, map, nth, front, list_from}
+use Rattle.rules.specs.Log.{Log, ε, ◌▹◌, Among, here, ahead, ◌or_else◌, maybe, size, put, all, first, last, last_at, map, nth, front, list_from}
 
 module _ {A : Type 0} where
   pub all_mono : (P Q : A → Bool) → ((x : A) → P x ≡ true → Q x ≡ true) → (l : Log A) → all P l ≡ true → all Q l ≡ true

@@ -1,4 +1,5 @@
 -- A print that is used leaves an acceptable record where it finds one, whatever made that (#111); and as a link it has no other use.
+use Rattle.std.specs.Prelude.{if◌then◌else◌}
 use Prim.Native.Nat.{ℕ, suc, ◌+◌, ◌*◌, ◌^◌, ◌<◌, ◌≤◌}
 use mathlib.Core.Path.{◌≡◌, refl, sym, ap, ◌∙◌}
 use mathlib.Core.Bool.{Bool, true, false, not, ◌&&◌, ◌||◌, beq}
@@ -22,7 +23,7 @@ use Rattle.rules.proofs.State.{fit_at, same_sizes, state_tests, state_tests_lem}
 use Rattle.rules.proofs.Brought.{at_least_1, at_least_2, after_more}
 use Rattle.rules.proofs.Acceptable.{rises_more, sound}
 use Rattle.rules.proofs.Sound.{opening-fits, candidates_fit_lem, prices_fit_lem, terms_good, slots_32, links_5, state_at, bits_below, prices_good, left_at, slot-after, slot_low, set_all, prices-length, set-fits, total_is, slot_is, empty-price, zero_both}
-use Rattle.rules.specs.Log.{Log, ε, ◌▹◌, if◌then◌else◌, maybe, size, all, every, Σ<, all<}
+use Rattle.rules.specs.Log.{Log, ε, ◌▹◌, maybe, size, all, every, Σ<, all<}
 use Rattle.rules.specs.Answers.{ok}
 use Rattle.rules.specs.Bytes.{fits_unsigned, fits}
 use Rattle.rules.specs.Terms.{Terms, slots}

@@ -1,4 +1,5 @@
 -- An outcome without the chain follows from the slots and the fallback alone: which it is, its price and its samples.
+use Rattle.std.specs.Prelude.{if◌then◌else◌}
 use Prim.Native.Nat.{ℕ}
 use mathlib.Core.Path.{◌≡◌, refl, sym, ap, ◌∙◌}
 use mathlib.Core.Bool.{Bool, true, false, not, ◌&&◌}
@@ -9,7 +10,7 @@ use lib.Signed.{lt_z}
 use lib.Dec.{ltb, leb}
 use borrow.Author.Tests.{ltb-true, leb-true, lt-ltb, le-leb}
 use Rattle.rules.proofs.Bools.{not_both, every_at}
-use Rattle.rules.specs.Log.{if◌then◌else◌, total, size}
+use Rattle.rules.specs.Log.{total, size}
 use Rattle.rules.specs.Bytes.{fits}
 use Rattle.rules.specs.Answers.{Result, ok, refused, Method, Answer, Opened, Used, Wait, Settle, Done, Refused, is_used}
 use Rattle.rules.specs.Terms.{slots, good_terms, terms_tests}

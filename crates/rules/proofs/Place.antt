@@ -1,4 +1,5 @@
 -- One more event: the ledger's holdings are those that the placing rule, or a withdrawal, leaves.
+use Rattle.std.specs.Prelude.{if◌then◌else◌}
 use Prim.Native.Nat.{ℕ, ◌+◌, ◌*◌, ◌-◌, ◌^◌, ◌<◌, ◌≤◌}
 use mathlib.Core.Path.{◌≡◌, refl, sym, ap, ◌∙◌, fun_ext}
 use mathlib.Core.Bool.{Bool, true, false, not, ◌&&◌, ◌||◌}
@@ -16,7 +17,7 @@ use Rattle.rules.proofs.Integers.{tests, sum_law, le_yes, lt_yes}
 use Rattle.rules.proofs.Sums.{Σ<_ext, Σ<_zero, Σ<-one, Σ<_le, find_ext, find_none, find_some, digit, digit_above}
 use Rattle.rules.proofs.Logs.{first-all, list_at, list_set}
 use Rattle.rules.proofs.Fallback.{fallback_more}
-use Rattle.rules.specs.Log.{Log, ε, ◌▹◌, if◌then◌else◌, is_some, maybe, last_at, last, all, map, find, Σ<, list_from, ◌or_else◌}
+use Rattle.rules.specs.Log.{Log, ε, ◌▹◌, is_some, maybe, last_at, last, all, map, find, Σ<, list_from, ◌or_else◌}
 use Rattle.rules.specs.Answers.{ok}
 use Rattle.rules.specs.Terms.{Terms, good_terms, terms_tests, slots}
 use Rattle.rules.specs.Prints.{Print}

@@ -1,4 +1,5 @@
 -- A series that was only posted to: what it holds comes of offers that it used, and every offer that passes acceptance was taken.
+use Rattle.std.specs.Prelude.{if◌then◌else◌}
 use Prim.Native.Nat.{ℕ, ◌<◌}
 use mathlib.Core.Path.{◌≡◌, refl, sym, ap, ◌∙◌}
 use mathlib.Core.Bool.{Bool, true, false, not, ◌&&◌, ◌||◌}
@@ -14,7 +15,7 @@ use Rattle.rules.proofs.Logs.{among_put, among_none, among_split}
 use Rattle.rules.proofs.Fallback.{fallback_more}
 use Rattle.rules.proofs.Place.{candidates-bit, sum_fits_lem}
 use Rattle.rules.proofs.Series.{accept_facts, accept_small, good_positive, none_ahead, ledger-empty, no_events, opening_good, ledger-live, in_range, events_small}
-use Rattle.rules.specs.Log.{Log, ε, ◌▹◌, Among, here, ahead, if◌then◌else◌, ◌or_else◌, is_some, put, all}
+use Rattle.rules.specs.Log.{Log, ε, ◌▹◌, Among, here, ahead, ◌or_else◌, is_some, put, all}
 use Rattle.rules.specs.Answers.{Result, ok, refused, Answer, Opened, Used, Wait, Settle, Done, Refused, final, is_used, is_refused}
 use Rattle.rules.specs.Terms.{slots, good_terms}
 use Rattle.rules.specs.Prints.{Print, Quote, accept}

@@ -1,4 +1,5 @@
 -- A Settle's price is the mean of the prices that its method takes from the ledger, and samples is how many these are.
+use Rattle.std.specs.Prelude.{if◌then◌else◌}
 use Prim.Native.Nat.{ℕ, zero, suc, ◌+◌, ◌*◌, ◌/◌, ◌%◌, ◌^◌, ◌<◌, ◌≤◌}
 use mathlib.Core.Path.{◌≡◌, refl, sym, ◌∙◌}
 use mathlib.Core.Bool.{Bool, true, false, not, ◌&&◌}
@@ -13,7 +14,7 @@ use Rattle.rules.proofs.Sums.{Σ<_ext, Σ<_stop, digit, digit_above}
 use Rattle.rules.proofs.Place.{held, held_small, held_pow}
 use Rattle.rules.proofs.Decision.{decide_each}
 use Rattle.rules.proofs.Series.{opening_good}
-use Rattle.rules.specs.Log.{Log, ε, if◌then◌else◌, maybe, size, put, map, total, Σ<, up_to}
+use Rattle.rules.specs.Log.{Log, ε, maybe, size, put, map, total, Σ<, up_to}
 use Rattle.rules.specs.Answers.{Result, ok, refused, Method, number, Answer, Opened, Used, Wait, Settle, Done, Refused, final, is_used}
 use Rattle.rules.specs.Terms.{slots, good_terms, terms_tests}
 use Rattle.rules.specs.Prints.{Print, accept}

@@ -1,4 +1,5 @@
 -- What is read from bytes fits its fields, and what is read from an acceptable record is sound.
+use Rattle.std.specs.Prelude.{if◌then◌else◌}
 use Prim.Native.Nat.{ℕ, zero, suc, ◌+◌, ◌*◌, ◌/◌, ◌^◌, ◌<◌}
 use mathlib.Core.Path.{◌≡◌, refl, ap}
 use mathlib.Core.Bool.{Bool, true, false, ◌&&◌}
@@ -18,7 +19,7 @@ use Rattle.rules.proofs.SlotPrices.{prices_are, price_at_lem}
 use Rattle.rules.proofs.Fields.{outcome_fits_lem}
 use Rattle.rules.proofs.Acceptable.{sound_tests, sound}
 use Rattle.rules.proofs.Record.{outcome_stands}
-use Rattle.rules.specs.Log.{if◌then◌else◌, all, front, every}
+use Rattle.rules.specs.Log.{all, front, every}
 use Rattle.rules.specs.Bytes.{Bytes, are_bytes, all_zero, unsigned_at, signed_at, fits_unsigned, fits}
 use Rattle.rules.specs.Answers.{ok, refused, method}
 use Rattle.rules.specs.Terms.{good_terms, terms_tests}

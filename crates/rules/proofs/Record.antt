@@ -1,4 +1,5 @@
 -- What is written into a record is read back from it, and the ledger's record is acceptable.
+use Rattle.std.specs.Prelude.{if◌then◌else◌}
 use Prim.Native.Nat.{ℕ, zero, suc, ◌+◌, ◌*◌, ◌/◌, ◌%◌, ◌^◌, ◌<◌, ◌≤◌}
 use mathlib.Core.Path.{◌≡◌, refl, ap, ◌∙◌}
 use mathlib.Core.Bool.{Bool, true, false, ◌&&◌}
@@ -21,7 +22,7 @@ use Rattle.rules.proofs.State.{fit_at, few_times, parts-back}
 use Rattle.rules.proofs.Decision.{by_price, decide_by_price}
 use Rattle.rules.proofs.Fields.{command_fits, ledger-fits}
 use Rattle.rules.proofs.Acceptable.{sound_tests, sound, ledger_sound}
-use Rattle.rules.specs.Log.{Log, ε, ◌▹◌, if◌then◌else◌, maybe, size, all, nth, every, all<, list_from}
+use Rattle.rules.specs.Log.{Log, ε, ◌▹◌, maybe, size, all, nth, every, all<, list_from}
 use Rattle.rules.specs.Bytes.{Bytes, zeros, all_zero, concat, little, signed, unsigned_at, signed_at, bytes, word, signed_bytes, fits_unsigned, fits}
 use Rattle.rules.specs.Answers.{ok, Method, number, method, Answer, Opened, Used, Wait, Settle, Done, Refused, final}
 use Rattle.rules.specs.Taking.{Candidates}

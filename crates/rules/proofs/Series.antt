@@ -1,4 +1,5 @@
 -- One series: each command leaves what the ledger reads off the commands so far.
+use Rattle.std.specs.Prelude.{if◌then◌else◌}
 use Prim.Native.Nat.{ℕ, ◌*◌, ◌^◌}
 use mathlib.Core.Path.{◌≡◌, refl, sym, ap, ◌∙◌}
 use mathlib.Core.Bool.{Bool, true, false, not, ◌&&◌, ◌||◌}
@@ -13,7 +14,7 @@ use Rattle.rules.proofs.Bools.{both}
 use Rattle.rules.proofs.Integers.{lt_le_trans, le_false, lt_false}
 use Rattle.rules.proofs.Logs.{all-put}
 use Rattle.rules.proofs.Place.{of_prints, candidates-bit, holdings_none, holdings_more, holdings_freed, holdings_kept, place_unusable, small, sum_fits_lem}
-use Rattle.rules.specs.Log.{Log, ε, ◌▹◌, if◌then◌else◌, ◌or_else◌, is_some, maybe, size, put, all}
+use Rattle.rules.specs.Log.{Log, ε, ◌▹◌, ◌or_else◌, is_some, maybe, size, put, all}
 use Rattle.rules.specs.Bytes.{fits}
 use Rattle.rules.specs.Answers.{Result, ok, refused, Answer, Used, Refused, final, is_used}
 use Rattle.rules.specs.Terms.{Terms, slots, good_terms}

@@ -1,4 +1,5 @@
 -- The slot that a print fills, as code finds it: by the one slot in whose time it was published.
+use Rattle.std.specs.Prelude.{if◌then◌else◌}
 use Prim.Native.Nat.{ℕ, ◌+◌, ◌*◌, ◌<◌, ◌≤◌}
 use mathlib.Core.Path.{◌≡◌, refl, sym, ap}
 use mathlib.Core.Bool.{Bool, true, false, not, ◌&&◌}
@@ -10,7 +11,7 @@ use lib.Signed.{lt_z, le_z}
 use lib.Dec.{ltb, eqb}
 use lib.Arith.{lt_of_le-ne}
 use borrow.Author.Tests.{ltb-true, ltb-false, eqb-true, eqb-false}
-use Rattle.rules.specs.Log.{if◌then◌else◌, find}
+use Rattle.rules.specs.Log.{find}
 use Rattle.rules.specs.Terms.{Terms, slots}
 use Rattle.rules.specs.Prints.{Print}
 use Rattle.rules.specs.Taking.{Candidates, boundary, canonical_tests, canonical, bit, slot_for}

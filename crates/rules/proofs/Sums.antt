@@ -1,4 +1,5 @@
 -- Sums over i < n, the first i < n, and the binary digits of a sum.
+use Rattle.std.specs.Prelude.{if◌then◌else◌}
 use Prim.Native.Nat.{ℕ, zero, suc, ◌+◌, ◌*◌, ◌-◌, ◌/◌, ◌%◌, ◌^◌, ◌<◌, ◌≤◌}
 use mathlib.Core.Path.{◌≡◌, refl, sym, ap, ap₂, ◌∙◌}
 use mathlib.Core.Bool.{Bool, true, false}
@@ -9,7 +10,7 @@ use lib.Pow.{pow_pos, pow-add, pow_mono}
 use lib.Arith.{lt_of_le-ne}
 use borrow.Author.Tests.{eqb-true, eqb-false}
 use lib.Dec.{eqb}
-use Rattle.rules.specs.Log.{if◌then◌else◌, find, Σ<, all<, ◌or_else◌}
+use Rattle.rules.specs.Log.{find, Σ<, all<, ◌or_else◌}
 use Rattle.rules.proofs.Bools.{both, not_both}
 
 -- ---- sums

@@ -1,4 +1,5 @@
 -- #109: what the vote changes, and that it changes nothing else.
+use Rattle.std.specs.Prelude.{if◌then◌else◌}
 use Prim.Native.Nat.{ℕ, ◌<◌}
 use mathlib.Core.Path.{◌≡◌, refl}
 use mathlib.Core.Bool.{Bool, true, false}
@@ -10,7 +11,6 @@ use native.Mathlib.Omega.{arith}
 use borrow.Author.Tests.{ltb-true, leb-true, leb-false, lt-ltb, lt-leb}
 use Rattle.rules.proofs.Bools.{not_both, every_at}
 use Rattle.rules.proofs.Integers.{sum_law, le_yes, no_lt, lt_false, le_true}
-use Rattle.rules.specs.Log.{if◌then◌else◌}
 use Rattle.rules.specs.Bytes.{fits}
 use Rattle.rules.specs.Answers.{Answer}
 use Rattle.rules.specs.Terms.{Terms, slots, good_terms, terms_tests}

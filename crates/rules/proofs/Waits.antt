@@ -1,4 +1,5 @@
 -- A decision asked at any time, and then only when its Waits say: at most three Waits, each of them exact, and then one answer for good.
+use Rattle.std.specs.Prelude.{if◌then◌else◌}
 use Prim.Native.Nat.{ℕ, suc, ◌^◌}
 use mathlib.Core.Path.{◌≡◌, refl, sym, ap, ◌∙◌}
 use mathlib.Core.Bool.{Bool, true, false, ◌||◌}
@@ -8,7 +9,7 @@ use lib.Signed.{lt_z, le_z}
 use lib.Dec.{ltb, leb, eqb}
 use Rattle.rules.proofs.Bools.{not_both, every_at}
 use Rattle.rules.proofs.Integers.{lt_yes, le_refl, le_trans, lt_le, le_true, lt_false, le_lt_trans, both_le}
-use Rattle.rules.specs.Log.{if◌then◌else◌, size, total}
+use Rattle.rules.specs.Log.{size, total}
 use Rattle.rules.specs.Bytes.{fits}
 use Rattle.rules.specs.Answers.{ok, refused, Method, Answer, Wait, Refused, settled}
 use Rattle.rules.specs.Terms.{Terms, slots, good_terms, terms_tests}

@@ -1,7 +1,6 @@
 -- 01, "What a command answers".
-use Rattle.std.specs.Prelude.{ℕ, Bool, true, false, ℤ, eqb}
+use Rattle.std.specs.Prelude.{ℕ, Bool, true, false, ℤ, eqb, if◌then◌else◌}
 use Rattle.std.proofs.Math.Option.{Option}
-use Rattle.rules.specs.Log.{if◌then◌else◌}
 
 -- a value, or a refusal with its number
 pub data Result (A : Type 0) : Type 0 where

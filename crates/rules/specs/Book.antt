@@ -1,6 +1,6 @@
 -- The book: 64 records. What an entry is answered on a book of any bytes, and the book after it.
-use Rattle.std.specs.Prelude.{ℕ, ◌+◌, ◌*◌, ◌++◌, length, take, drop, not, ltb, eqb}
-use Rattle.rules.specs.Log.{Log, ε, ◌▹◌, if◌then◌else◌, maybe}
+use Rattle.std.specs.Prelude.{ℕ, ◌+◌, ◌*◌, ◌++◌, length, take, drop, not, ltb, eqb, if◌then◌else◌}
+use Rattle.rules.specs.Log.{Log, ε, ◌▹◌, maybe}
 use Rattle.rules.specs.Bytes.{Bytes, zeros}
 use Rattle.rules.specs.Answers.{Result, ok, refused, Answer, Refused}
 use Rattle.rules.specs.Series.{Command, Series, step, answer, changed}

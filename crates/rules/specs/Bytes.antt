@@ -1,7 +1,6 @@
 -- Numbers in bytes. 01: "all fields are little-endian, signed ones in two's complement."
-use Rattle.std.specs.Prelude.{ℕ, zero, suc, ◌+◌, ◌*◌, ◌-◌, ◌/◌, ◌%◌, ◌^◌, Bool, true, ◌&&◌, List, [], ◌∷◌, ◌++◌, take, drop, replicate, ℤ, pos, negsuc, ltb, eqb}
+use Rattle.std.specs.Prelude.{ℕ, zero, suc, ◌+◌, ◌*◌, ◌-◌, ◌/◌, ◌%◌, ◌^◌, Bool, true, ◌&&◌, List, [], ◌∷◌, ◌++◌, take, drop, replicate, ℤ, pos, negsuc, ltb, eqb, if◌then◌else◌}
 use Rattle.std.specs.Int.Signed.{mag}
-use Rattle.rules.specs.Log.{if◌then◌else◌}
 
 abbrev pub Bytes : Type 0
 Bytes = List ℕ

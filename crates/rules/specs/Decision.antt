@@ -1,7 +1,7 @@
 -- 01, "Decision (`SettlementState::decide`)", with #109's order of its two partial steps.
-use Rattle.std.specs.Prelude.{ℕ, ◌/◌, ◌%◌, ◌^◌, Bool, false, not, List, [], ◌∷◌, ℤ, pos, ◌+ℤ◌, ltb, leb}
+use Rattle.std.specs.Prelude.{ℕ, ◌/◌, ◌%◌, ◌^◌, Bool, false, not, List, [], ◌∷◌, ℤ, pos, ◌+ℤ◌, ltb, leb, if◌then◌else◌}
 use Rattle.std.specs.Int.Signed.{lt_z, le_z}
-use Rattle.rules.specs.Log.{ε, if◌then◌else◌, size, total, every, Σ<}
+use Rattle.rules.specs.Log.{ε, size, total, every, Σ<}
 use Rattle.rules.specs.Bytes.{fits}
 use Rattle.rules.specs.Answers.{Result, ok, refused, Method, Answer, Wait, Settle, Refused}
 use Rattle.rules.specs.Terms.{Terms, slots}

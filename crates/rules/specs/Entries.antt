@@ -1,6 +1,5 @@
 -- 01, "Commands": an entry of the list is any bytes. It is a command of a series, or none with its refusal.
-use Rattle.std.specs.Prelude.{ℕ, [], ◌∷◌, length, ℤ, ltb, eqb}
-use Rattle.rules.specs.Log.{if◌then◌else◌}
+use Rattle.std.specs.Prelude.{ℕ, [], ◌∷◌, length, ℤ, ltb, eqb, if◌then◌else◌}
 use Rattle.rules.specs.Bytes.{Bytes, unsigned_at, signed_at}
 use Rattle.rules.specs.Prints.{Quote}
 use Rattle.rules.specs.Series.{Opening, Command, Open, Offer, Ask, Fix, Withdraw}

@@ -1,8 +1,8 @@
 -- #104: the same prints in two orders. j and k are the commands that two series were given, each since its place was empty.
-use Rattle.std.specs.Prelude.{ℕ, ◌≡◌, Bool, true, false, not, ◌&&◌, ◌||◌, List, [], ◌∷◌, take, drop, pos}
+use Rattle.std.specs.Prelude.{ℕ, ◌≡◌, Bool, true, false, not, ◌&&◌, ◌||◌, List, [], ◌∷◌, take, drop, pos, if◌then◌else◌}
 use Rattle.std.proofs.Math.Option.{Option, none, some}
 use Rattle.std.specs.Int.Signed.{le_z}
-use Rattle.rules.specs.Log.{Log, ε, ◌▹◌, Among, if◌then◌else◌, is_some, collect}
+use Rattle.rules.specs.Log.{Log, ε, ◌▹◌, Among, is_some, collect}
 use Rattle.rules.specs.Bytes.{Bytes}
 use Rattle.rules.specs.Answers.{Method, Answer, Opened, Used, Wait, Settle, Done, Refused, is_used, is_refused}
 use Rattle.rules.specs.Prints.{Quote, eq_z}

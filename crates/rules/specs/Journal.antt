@@ -1,7 +1,7 @@
 -- A journal. 01: "The `sheet` program reads a journal from standard input over a zeroed book and prints a line per command,
 -- ending after a 32 or a short tail's 33."
-use Rattle.std.specs.Prelude.{ℕ, zero, suc, Bool, true, false, ◌&&◌, List, [], ◌∷◌, ◌++◌, length, take, drop, ltb, eqb}
-use Rattle.rules.specs.Log.{Log, ε, ◌▹◌, puts, if◌then◌else◌}
+use Rattle.std.specs.Prelude.{ℕ, zero, suc, Bool, true, false, ◌&&◌, List, [], ◌∷◌, ◌++◌, length, take, drop, ltb, eqb, if◌then◌else◌}
+use Rattle.rules.specs.Log.{Log, ε, ◌▹◌, puts}
 use Rattle.rules.specs.Bytes.{Bytes, unsigned_at}
 use Rattle.rules.specs.Entries.{width}
 use Rattle.rules.specs.Book.{answer_to, run}

@@ -1,8 +1,8 @@
 -- 01, "Commands": "The ledger, read from the list alone, per series".
-use Rattle.std.specs.Prelude.{ℕ, zero, suc, ◌^◌, ◌<◌, ◌≡◌, Bool, not, ◌&&◌, ◌||◌, List, [], ◌++◌, ℤ, pos, ltb, eqb}
+use Rattle.std.specs.Prelude.{ℕ, zero, suc, ◌^◌, ◌<◌, ◌≡◌, Bool, not, ◌&&◌, ◌||◌, List, [], ◌++◌, ℤ, pos, ltb, eqb, if◌then◌else◌}
 use Rattle.std.proofs.Math.Option.{Option, none, some}
 use Rattle.std.specs.Int.Signed.{le_z}
-use Rattle.rules.specs.Log.{Log, ε, ◌▹◌, if◌then◌else◌, is_some, maybe, size, put, all, first, last, last_at, map, first_at, collect, total, Σ<, find, up_to, list_from}
+use Rattle.rules.specs.Log.{Log, ε, ◌▹◌, is_some, maybe, size, put, all, first, last, last_at, map, first_at, collect, total, Σ<, find, up_to, list_from}
 use Rattle.rules.specs.Bytes.{Bytes}
 use Rattle.rules.specs.Answers.{Result, ok, refused, Method, number, Answer, Refused, final}
 use Rattle.rules.specs.Terms.{good_terms, slots}

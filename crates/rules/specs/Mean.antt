@@ -1,6 +1,5 @@
 -- 01, "Mean (`to_atoms`)".
-use Rattle.std.specs.Prelude.{ℕ, suc, ◌+◌, ◌*◌, ◌/◌, ◌^◌, not, ◌||◌, ℤ, pos, negsuc, ◌+ℤ◌, leb, eqb}
-use Rattle.rules.specs.Log.{if◌then◌else◌}
+use Rattle.std.specs.Prelude.{ℕ, suc, ◌+◌, ◌*◌, ◌/◌, ◌^◌, not, ◌||◌, ℤ, pos, negsuc, ◌+ℤ◌, leb, eqb, if◌then◌else◌}
 use Rattle.rules.specs.Answers.{Result, ok, refused}
 use Rattle.rules.specs.Terms.{good_exponent}
 

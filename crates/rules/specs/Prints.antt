@@ -1,7 +1,6 @@
 -- 01, "Prints (`Print::try_new`; `accept_print` above it refuses more)".
-use Rattle.std.specs.Prelude.{ℕ, ◌*◌, Bool, not, ◌&&◌, ◌||◌, ℤ, pos, nat_abs, ltb, eqb}
+use Rattle.std.specs.Prelude.{ℕ, ◌*◌, Bool, not, ◌&&◌, ◌||◌, ℤ, pos, nat_abs, ltb, eqb, if◌then◌else◌}
 use Rattle.std.specs.Int.Signed.{lt_z, le_z}
-use Rattle.rules.specs.Log.{if◌then◌else◌}
 use Rattle.rules.specs.Answers.{Result, ok, refused}
 
 -- "A print has a u64 price and i64 times pub and prev." (`published` is 01's pub.)

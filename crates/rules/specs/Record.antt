@@ -1,7 +1,7 @@
 -- 01, "Record", and #103: a record has 456 bytes, the last 256 of them for the prices of 32 slots; a book has 64 records.
-use Rattle.std.specs.Prelude.{ℕ, ◌+◌, ◌*◌, ◌/◌, ◌%◌, ◌^◌, Bool, true, false, ◌&&◌, List, [], ◌∷◌, ◌++◌, length, get_or, ℤ, pos, ltb, leb, eqb}
+use Rattle.std.specs.Prelude.{ℕ, ◌+◌, ◌*◌, ◌/◌, ◌%◌, ◌^◌, Bool, true, false, ◌&&◌, List, [], ◌∷◌, ◌++◌, length, get_or, ℤ, pos, ltb, leb, eqb, if◌then◌else◌}
 use Rattle.std.specs.Bool.{beq}
-use Rattle.rules.specs.Log.{if◌then◌else◌, size, all, every, Σ<, all<, list_from}
+use Rattle.rules.specs.Log.{size, all, every, Σ<, all<, list_from}
 use Rattle.rules.specs.Bytes.{Bytes, zeros, all_zero, concat, unsigned_at, signed_at, bytes, signed_bytes, fits_unsigned, fits_signed, fits}
 use Rattle.rules.specs.Answers.{Result, ok, refused, Method, number, method, Answer, Opened, Used, Wait, Settle, Done, Refused, final}
 use Rattle.rules.specs.Terms.{good_terms}

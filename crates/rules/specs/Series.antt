@@ -1,7 +1,7 @@
 -- 01, "Commands": what a command answers on a series, and the series after it.
-use Rattle.std.specs.Prelude.{ℕ, not, List, get_or, set, replicate, ℤ, pos, leb}
+use Rattle.std.specs.Prelude.{ℕ, not, List, get_or, set, replicate, ℤ, pos, leb, if◌then◌else◌}
 use Rattle.std.proofs.Math.Option.{Option, none, some}
-use Rattle.rules.specs.Log.{ε, if◌then◌else◌, maybe}
+use Rattle.rules.specs.Log.{ε, maybe}
 use Rattle.rules.specs.Answers.{Result, Answer, Opened, Wait, Done, Refused, final, is_used}
 use Rattle.rules.specs.Terms.{Terms, slots, good_terms}
 use Rattle.rules.specs.Prints.{Print, Quote, accept}

@@ -1,8 +1,8 @@
 -- The state as it is stored, `restore`'s test (01, "Record") and the core calls, which "check what they take first" (01, "What a command answers").
-use Rattle.std.specs.Prelude.{ℕ, ◌^◌, Bool, true, not, ◌&&◌, ◌||◌, List, [], ◌∷◌, get_or, ℤ, pos, ltb, leb, eqb}
+use Rattle.std.specs.Prelude.{ℕ, ◌^◌, Bool, true, not, ◌&&◌, ◌||◌, List, [], ◌∷◌, get_or, ℤ, pos, ltb, leb, eqb, if◌then◌else◌}
 use Rattle.std.specs.Bool.{beq}
 use Rattle.std.specs.Int.Signed.{lt_z}
-use Rattle.rules.specs.Log.{Log, ε, ◌▹◌, if◌then◌else◌, size, all, nth, front, every}
+use Rattle.rules.specs.Log.{Log, ε, ◌▹◌, size, all, nth, front, every}
 use Rattle.rules.specs.Answers.{Result, ok, refused, Answer, Refused, is_used}
 use Rattle.rules.specs.Terms.{Terms, slots, good_terms}
 use Rattle.rules.specs.Prints.{Print, Quote, good_print, eq_z, accept}

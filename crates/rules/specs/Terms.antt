@@ -1,7 +1,7 @@
 -- 01, "Terms (`OracleParams::try_new`)".
-use Rattle.std.specs.Prelude.{ℕ, ◌/◌, ◌%◌, Bool, ◌&&◌, List, [], ◌∷◌, ℤ, pos, neg_ℤ, ltb, leb, eqb}
+use Rattle.std.specs.Prelude.{ℕ, ◌/◌, ◌%◌, Bool, ◌&&◌, List, [], ◌∷◌, ℤ, pos, neg_ℤ, ltb, leb, eqb, if◌then◌else◌}
 use Rattle.std.specs.Int.Signed.{le_z}
-use Rattle.rules.specs.Log.{if◌then◌else◌, every}
+use Rattle.rules.specs.Log.{every}
 use Rattle.rules.specs.Answers.{Result, ok, refused}
 
 -- "Seconds, u32: window, slot, delay D, lookback, hard deadline. u16: tolerance, minimum. u8: k. i8: exponent e."

@@ -1,9 +1,7 @@
-use Prim.Native.Nat.{ℕ, ◌-◌, ◌^◌, ◌<◌}
-use mathlib.Core.Path.{◌≡◌}
-use mathlib.Core.Logic.{⊎_elim}
+use Prim.Native.Nat.{◌^◌, ◌<◌}
 use native.Mathlib.Omega.{arith}
 use borrow.Author.Rules.{rules}
-use lib.ListN.{length, get_or}
+use lib.ListN.{get_or}
 use Rattle.core_decide.proofs.Chains.{added_none, added_past, added_kept, added_carried, added_few, added_all, word_fits}
 use Rattle.core_decide.proofs.decide.add_prices.Goals as goal
 use Rattle.core_decide.proofs.decide.add_prices.Goals.{then-i-len+then-low-room, then-i-len+else-low-room, else-i-len}
@@ -22,7 +20,7 @@ loop-i-preserved c =
     let f : get_or c.args.prices l.i 0 < 2 ^ 64 = word_fits 5 c.args.prices _ c.well_formed.0 l.i in (
       omega arith,
       elim j.branch [
-        then-i-len+then-low-room w ↦ added_kept c.args.prices c.args.len l.i l.high l.low j.high j.low l.invariant.1 w.if-i-len.true f w.if-low-room.true w.high-is w.low-is
+        | then-i-len+then-low-room w ↦ added_kept c.args.prices c.args.len l.i l.high l.low j.high j.low l.invariant.1 w.if-i-len.true f w.if-low-room.true w.high-is w.low-is
         | then-i-len+else-low-room w ↦ added_carried c.args.prices c.args.len l.i l.high l.low j.high j.low l.invariant.1 w.if-i-len.true f w.if-low-room.false w.high-is w.low-is
         | else-i-len w ↦ added_past c.args.prices c.args.len l.i l.high l.low j.high j.low l.invariant.1 w.if-i-len.false w.high-is w.low-is
       ],

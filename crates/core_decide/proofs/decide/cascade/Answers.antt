@@ -24,12 +24,6 @@ use Rattle.core_decide.proofs.Counts.{ones-same}
 use Rattle.core_decide.proofs.Steps.{test, sum_is, sum_over, expiry-ahead, no_deadline, full, window, next_print, partials}
 use Rattle.core_decide.proofs.decide.cascade.Goals as goal
 
-
-
-
-
-
-
 pub returns-then-now-expiry : goal.returns-then-now-expiry
 returns-then-now-expiry c =
     let a = c.args in

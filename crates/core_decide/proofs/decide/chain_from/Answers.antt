@@ -9,8 +9,6 @@ use Rattle.core_decide.specs.Decisions.{decision_of, method_of}
 use Rattle.core_decide.proofs.Steps.{settled, comes, waits}
 use Rattle.core_decide.proofs.decide.chain_from.Goals as goal
 
-
-
 pub returns-in-Now : goal.returns-in-Now
 unfolding wide_of
 returns-in-Now c =

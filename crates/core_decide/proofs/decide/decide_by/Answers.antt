@@ -1,11 +1,11 @@
-use mathlib.Core.Path.{◌≡◌, ap, ◌∙◌}
+use mathlib.Core.Path.{ap, ◌∙◌}
 use lib.IntN.{ℤ}
 use mir.Syntax.{w64}
 use mir.Val.{SFits}
 use mir.Facts.{to_z-of_z}
 use borrow.Author.Rules.{rules}
 use Rattle.rules.specs.Decision.{decide_by}
-use Rattle.rules.specs.State.{candidates_of, good_state, decide_call}
+use Rattle.rules.specs.State.{candidates_of, decide_call}
 use Rattle.core_terms.specs.Params.{terms_of}
 use Rattle.core_parts.specs.States.{stored_of}
 use Rattle.core_parts.proofs.Places.{passed, failed, of_terms}

@@ -16,12 +16,6 @@ use Rattle.core_decide.specs.Decisions.{order_of, chain_first}
 use Rattle.core_decide.proofs.Steps.{test, deadline_ahead, partial_print, partial_window_lem, fallback, void}
 use Rattle.core_decide.proofs.decide.partial.Goals as goal
 
-
-
-
-
-
-
 pub returns-then-now-hard : goal.returns-then-now-hard
 unfolding terms_of
 returns-then-now-hard c E deadline count =

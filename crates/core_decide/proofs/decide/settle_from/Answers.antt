@@ -8,8 +8,6 @@ use Rattle.core_decide.specs.Decisions.{decision_of, method_of}
 use Rattle.core_decide.proofs.Steps.{settled, comes, waits}
 use Rattle.core_decide.proofs.decide.settle_from.Goals as goal
 
-
-
 pub returns-in-Now : goal.returns-in-Now
 returns-in-Now c =
     let a = c.args in

@@ -14,8 +14,6 @@ upper_plus : (p : ℕ) (w : Wide) {n : ℕ} → wide_of w ≡ n → (p + w.high)
 unfolding wide_of
 upper_plus p w e = omega arith
 
-
-
 pub returns-then-den-hi : goal.returns-then-den-hi
 returns-then-den-hi c =
     let a = c.args in

@@ -36,7 +36,7 @@ prices_length s e = e
 sum_is : (t : Terms) (E : ℤ) (s : SettlementParts) (x : Print) (n : ℕ) (i : Option ℕ)
     → i ≡ slot_for t E (candidates_of (stored_of s)) (print_of x) → some n ≡ total_after (stored_of s).sum i x.price
     → (sum_fits t E (candidates_of (stored_of s)) (print_of x) ≡ true)
-      × (n ≡ maybe (stored_of s).sum (λ i. (stored_of s).sum + (print_of x).price) (slot_for t E (candidates_of (stored_of s)) (print_of x)))
+    × (n ≡ maybe (stored_of s).sum (λ i. (stored_of s).sum + (print_of x).price) (slot_for t E (candidates_of (stored_of s)) (print_of x)))
 unfolding print_of candidates_of
 sum_is t E s x n i e f = sum_told t E (candidates_of (stored_of s)) (print_of x) n (rw e at f)
 

@@ -1,12 +1,9 @@
-use mathlib.Core.Path.{◌≡◌, refl, sym, ap, ◌∙◌}
-use mathlib.Core.Bool.{true}
+use mathlib.Core.Path.{refl, sym, ap, ◌∙◌}
 use mir.Syntax.{w8, w32, w64}
 use mir.Val.{SFits}
 use mir.Facts.{to_z-of_z}
 use borrow.Author.Rules.{rules}
-use Rattle.rules.specs.Terms.{good_terms}
-use Rattle.rules.specs.Prints.{accept}
-use Rattle.rules.specs.State.{good_state, offer_call, offer_state}
+use Rattle.rules.specs.State.{offer_call, offer_state}
 use Rattle.core_terms.specs.Params.{terms_of}
 use Rattle.core_prices.specs.Prints.{print_result_of, quote_of}
 use Rattle.core_take.specs.Uses.{refused_of}

@@ -11,12 +11,6 @@ use Rattle.core_take.specs.Placing.{fallback_use}
 use borrow.Author.Rules.{rules}
 use Rattle.core_take.proofs.take.try_fallback.Goals as goal
 
-
-
-
-
-
-
 pub returns : goal.returns
 unfolding fallback_use fallback_in qualifies terms_of print_of stored_of candidates_of
 returns c =

@@ -9,10 +9,6 @@ use Rattle.core_take.proofs.Slots.{by_division}
 use borrow.Author.Rules.{rules}
 use Rattle.core_take.proofs.take.try_slot.Goals as goal
 
-
-
-
-
 pub returns : goal.returns
 unfolding terms_of print_of stored_of candidates_of
 returns c =

@@ -7,8 +7,6 @@ use Rattle.core_prices.specs.Prints.{print_of}
 use Rattle.core_parts.specs.States.{stored_of}
 use Rattle.core_take.proofs.take.with_fallback.Goals as goal
 
-
-
 pub returns : goal.returns
 unfolding stored_of print_of
 returns c =

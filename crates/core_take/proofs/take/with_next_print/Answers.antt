@@ -6,8 +6,6 @@ use Rattle.core_parts.specs.States.{stored_of}
 use borrow.Author.Rules.{rules}
 use Rattle.core_take.proofs.take.with_next_print.Goals as goal
 
-
-
 pub returns : goal.returns
 unfolding stored_of print_of
 returns c =

@@ -13,8 +13,6 @@ use Rattle.core_parts.specs.States.{stored_of}
 use Rattle.core_parts.proofs.Places.{fails_at, too_many, by_places, passed, failed}
 use Rattle.core_parts.proofs.state.SettlementParts.fits.Goals as goal
 
-
-
 pub returns-then-not-bits_ok : goal.returns-then-not-bits_ok
 unfolding stored_of
 returns-then-not-bits_ok c = λ t e k. sym (fails_at t (stored_of c.args.self) 0 (rw e (failed c.bits_ok.ensures c.if-not-bits_ok.true-raw)))

@@ -7,10 +7,6 @@ use Rattle.rules.proofs.Integers.{le_not_lt}
 use Rattle.core_prices.specs.Prints.{print_of}
 use Rattle.core_prices.proofs.print.Print.in_range.Goals as goal
 
-
-
-
-
 pub returns-then-self-eq0 : goal.returns-then-self-eq0
 unfolding print_of
 returns-then-self-eq0 c = simp (eq-eqb c.args.self.price 0 c.if-self-eq0.true)
