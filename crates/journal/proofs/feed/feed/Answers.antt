@@ -41,7 +41,7 @@ loop-out-preserved c =
     let l = c.loop-out in
     let a = c.args in
     let f = first_of_lem a.last a.part.now l.at c.first_width-width.ensures in
-    (goes_on l.invariant.0 f (omega arith) (entry_of a.part.now l.at c.first_width-width.result) (omega arith) c.give-written.ensures c.if-width-eq1.false, c.give-written.auto.0 ∙ l.invariant.1, c.give-written.auto.1.1.0 ∙ l.invariant.2)
+    (goes_on l.invariant.0 f (omega arith) (entry_of a.part.now l.at c.first_width-width.result) (omega arith) c.give-written.ensures c.if-width-eq1.false, c.give-written.auto.book ∙ l.invariant.1, c.give-written.auto.out ∙ l.invariant.2)
 
 pub returns : goal.returns
 returns c = no_room c.loop-out.invariant.0 (omega arith)

@@ -17,7 +17,10 @@ pub returns-then-out-lines : goal.returns-then-out-lines
 returns-then-out-lines c =
     let a = c.args in
     rw (lt-leb (length a.journal.now / 10 + 2) (length a.out.now / line_max) c.if-out-lines.true)
-    ((refl, refl, whole_journal.demand a.journal.now (are_bytes_lem a.journal.now c.shared_slice_known-1.given)), omega arith)
+    record {
+      value = (refl, refl, whole_journal.demand a.journal.now (are_bytes_lem a.journal.now c.shared_slice_known-1.given));
+      upper_bound = omega arith;
+    }
 
 pub returns : goal.returns
 unfolding zeros
@@ -26,4 +29,7 @@ returns c =
     let room = c.if-out-lines.false in
     let w = whole-sheet a.journal.now a.out.now (omega (arith, room)) c.feed-fed.ensures in
     rw (le-leb (length a.journal.now / 10 + 2) (length a.out.now / line_max) room)
-    ((w.0, w.1, whole_journal.demand a.journal.now (are_bytes_lem a.journal.now c.shared_slice_known-1.given)), fed_written true a.journal.now (zeros book_size) a.out.now c.feed-fed.ensures)
+    record {
+      value = (w.0, w.1, whole_journal.demand a.journal.now (are_bytes_lem a.journal.now c.shared_slice_known-1.given));
+      upper_bound = fed_written true a.journal.now (zeros book_size) a.out.now c.feed-fed.ensures;
+    }
