@@ -14,7 +14,7 @@ use Rattle.rules.specs.Terms.{good_terms}
 use Rattle.rules.specs.Prints.{Print, good_print, new_print, Quote, eq_z, accept}
 use Rattle.rules.specs.Taking.{Candidates, slot_for, usable, times_fit, sum_fits, print_answer, offer_answer, offer_placed}
 use Rattle.rules.specs.State.{Parts, candidates_of, parts_of, good_state, offer_call, offer_state}
-use Rattle.rules.specs.Series.{Opening, Offer, Series, leaves, step}
+use Rattle.rules.specs.Series.{Opening, Offer, Series, step}
 use Rattle.rules.specs.Record.{open_record, bytes_of}
 use Rattle.rules.specs.Book.{replaced, stored_answer, written}
 use Rattle.record_store.specs.Prices.{with_price}

@@ -1,4 +1,3 @@
-use Prim.Native.Nat.{◌-◌}
 use mathlib.Core.Path.{refl, sym, ◌∙◌}
 use native.Mathlib.Omega.{arith}
 use Rattle.journal.proofs.Given.{starts, first_of_lem, first_ends, entry_of, no_room, no_entry, ends-here, goes_on}

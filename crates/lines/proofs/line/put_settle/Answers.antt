@@ -20,7 +20,10 @@ returns c =
     let p = c.put_head-at.ensures in
     let q = c.put_field-at.ensures in
     let r = c.put_field-at-2.ensures in
-    let s = c.put_field-at-3.ensures in record { value = front a.out.now (ascii "settle" ++ (ascii " " ++ decimal a.series)) p.value
+    let s = c.put_field-at-3.ensures in record {
+      value = front a.out.now (ascii "settle" ++ (ascii " " ++ decimal a.series)) p.value
           (next (ascii " " ++ decimal (number (method_of a.method))) (rw c.number.ensures at q.value)
           (next (ascii " " ++ decimal a.price.0) (rw c.get.ensures at r.value)
-          (last (ascii " " ++ decimal a.samples) s.value))); upper_bound = ended c }
+          (last (ascii " " ++ decimal a.samples) s.value)));
+      upper_bound = ended c;
+    }

@@ -20,7 +20,10 @@ returns c =
     let p = c.put_head-at.ensures in
     let q = c.put_index-at.ensures in
     let r = c.put_index-at-2.ensures in
-    let s = c.put_field-at.ensures in record { value = front a.out.now (ascii "used" ++ (ascii " " ++ decimal a.series)) p.value
+    let s = c.put_field-at.ensures in record {
+      value = front a.out.now (ascii "used" ++ (ascii " " ++ decimal a.series)) p.value
           (next (ascii " " ++ index (index_of a.u.slot)) q.value
           (next (ascii " " ++ index (index_of a.u.next_print)) r.value
-          (last (ascii " " ++ flag a.u.fallback) (rw (← flag-decimal a.u.fallback) at s.value)))); upper_bound = ended c }
+          (last (ascii " " ++ flag a.u.fallback) (rw (← flag-decimal a.u.fallback) at s.value))));
+      upper_bound = ended c;
+    }
