@@ -2,14 +2,16 @@
 // and prints for each call how many there are and how many the core answers otherwise.
 #![tactic(auto)]
 
-ghost use Rattle.std.specs.Prelude.{◌≤◌};
+ghost use Rattle.std.specs.Prelude.{◌≤◌, IsTrue};
+ghost use Rattle.std.specs.Io.KnownBytes.{Consumes, IsAtEnd};
 
 mod given;
 mod replay;
 mod tally;
 
 use fields::read::{u32_at, u64_at};
-use libc::{STDIN_FILENO, STDOUT_FILENO};
+use std::io;
+use std::io::{Read, Write};
 use tally::{PLACES, RECORD};
 
 // The width of a record after its tag; 0 for a tag that there is not.
@@ -41,53 +43,69 @@ fn is_same(tag: u8, b: &[u8]) -> bool {
     }
 }
 
+// Reads as many bytes as b has, and says whether there are so many.
+fn fill<R: Read>(reader: &mut R, b: &mut [u8]) -> bool
+    ensures { IsTrue result → Consumes (R.remaining reader.old) (R.remaining reader.new) b.new }
+{
+    reader.read_exact(b).is_ok()
+}
+
+// Whether no byte is left. A read that fails does not say so.
+fn is_over<R: Read>(reader: &mut R) -> bool
+    ensures { IsTrue result → IsAtEnd (R.remaining reader.new) }
+{
+    let mut b = [0u8; 1];
+    match reader.read(&mut b) {
+        Ok(n) => n == 0,
+        Err(_) => false,
+    }
+}
+
 // Replays the record of this tag, which is as long as the space for it, and says whether it is
 // there.
-fn record(tag: u8, b: &mut [u8], t: &mut [u64; PLACES]) -> bool {
-    let n = b.len();
-    if io::read_full(STDIN_FILENO, b) != n {
+fn record<R: Read>(reader: &mut R, tag: u8, b: &mut [u8], t: &mut [u64; PLACES]) -> bool {
+    if !fill(reader, b) {
         return false;
     }
     tally::answer(t, tag, is_same(tag, b));
     true
 }
 
-fn tagged(tag: u8, t: &mut [u64; PLACES]) -> bool {
+fn tagged<R: Read>(reader: &mut R, tag: u8, t: &mut [u64; PLACES]) -> bool {
     let n = width(tag);
     if n == 0 {
         return false;
     }
     let mut b = [0u8; 352];
-    record(tag, &mut b[..n], t)
+    record(reader, tag, &mut b[..n], t)
 }
 
-fn next_record(t: &mut [u64; PLACES]) -> bool {
+fn next_record<R: Read>(reader: &mut R, t: &mut [u64; PLACES]) -> bool {
     let mut b = [0u8; 1];
-    if io::read_full(STDIN_FILENO, &mut b) == 0 {
+    if !fill(reader, &mut b) {
         return false;
     }
-    tagged(b[0], t)
+    tagged(reader, b[0], t)
 }
 
 // Replays n records, and says whether there are so many and no bytes behind them.
-fn replay_all(n: u64, t: &mut [u64; PLACES]) -> bool {
+fn replay_all<R: Read>(reader: &mut R, n: u64, t: &mut [u64; PLACES]) -> bool {
     let mut i: u64 = 0;
     while i < n {
         i += 1;
         t[RECORD] = i;
-        if !next_record(t) {
+        if !next_record(reader, t) {
             return false;
         }
     }
-    let mut b = [0u8; 1];
-    io::read_full(STDIN_FILENO, &mut b) == 0
+    is_over(reader)
 }
 
 // The number of records, which stands after the eight bytes that every sample starts with; 0 where
 // they do not stand there.
-fn header() -> u64 {
+fn header<R: Read>(reader: &mut R) -> u64 {
     let mut b = [0u8; 12];
-    if io::read_full(STDIN_FILENO, &mut b) != 12 {
+    if !fill(reader, &mut b) {
         return 0;
     }
     // LFCORE02
@@ -97,20 +115,23 @@ fn header() -> u64 {
     u32_at(&b, 8) as u64
 }
 
-fn main() {
-    let n = header();
+fn main(rt: HostRuntime) -> io::Result<()> {
+    let mut reader = rt.reader();
+    let mut out = io::writer(&rt);
+    let n = header(&mut reader);
     if n == 0 {
-        io::write_all(STDOUT_FILENO, b"not a sample\n");
-        return;
+        return out.write_all(b"not a sample\n");
     }
     let mut t = [0u64; PLACES];
-    let is_whole = replay_all(n, &mut t);
-    tally::print_all(&t);
+    let is_whole = replay_all(&mut reader, n, &mut t);
+    tally::print_all(&mut out, &t)?;
     if !is_whole {
         tally::print(
+            &mut out,
             b"the sample is short, damaged or too long at record #\n",
             &t,
             RECORD,
-        );
+        )?;
     }
+    Ok(())
 }

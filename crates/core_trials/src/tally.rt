@@ -3,7 +3,8 @@
 // the places below.
 ghost use Rattle.std.specs.Prelude.{◌<◌};
 
-use libc::STDOUT_FILENO;
+use std::io;
+use std::io::Write;
 
 pub(crate) const PLACES: usize = 20;
 
@@ -38,38 +39,47 @@ pub(crate) fn answer(t: &mut [u64; PLACES], tag: u8, is_same: bool) {
 }
 
 // Writes a byte, or for # the number at this place, and answers the place whose number is next.
-fn put(byte: u8, t: &[u64; PLACES], at: usize) -> usize {
+fn put<W: Write>(out: &mut W, byte: u8, t: &[u64; PLACES], at: usize) -> io::Result<usize> {
     if byte != b'#' {
         let one = [byte];
-        io::write_all(STDOUT_FILENO, &one);
-        return at;
+        out.write_all(&one)?;
+        return Ok(at);
     }
     if PLACES <= at {
-        return at;
+        return Ok(at);
     }
-    io::print_decimal(STDOUT_FILENO, t[at]);
-    at + 1
+    let n = t[at];
+    write!(out, "{n}")?;
+    Ok(at + 1)
 }
 
 // Writes a text, each # in it as one of the numbers from this place on.
-pub(crate) fn print(text: &[u8], t: &[u64; PLACES], first: usize) {
+pub(crate) fn print<W: Write>(
+    out: &mut W,
+    text: &[u8],
+    t: &[u64; PLACES],
+    first: usize,
+) -> io::Result<()> {
     let mut at = first;
     let mut i: usize = 0;
     while i < text.len() {
-        at = put(text[i], t, at);
+        at = put(out, text[i], t, at)?;
         i += 1;
     }
+    Ok(())
 }
 
-pub(crate) fn print_all(t: &[u64; PLACES]) {
+pub(crate) fn print_all<W: Write>(out: &mut W, t: &[u64; PLACES]) -> io::Result<()> {
     print(
+        out,
         b"mean # different #\naccept # different #\nrestore # different #\n\
           add_print # different #\ndecide # different #\nparams # different #\n\
           print # different #\nmethod # different #\n",
         t,
         2,
-    );
+    )?;
     if t[FIRST] != 0 {
-        print(b"the first that differs is record #\n", t, FIRST);
+        print(out, b"the first that differs is record #\n", t, FIRST)?;
     }
+    Ok(())
 }
