@@ -7,6 +7,7 @@ use crate::tally::{COMMAND, PLACES};
 use crate::{recorded, tally};
 use commands::apply::apply;
 use fields::read::u8_at;
+use std::io::Read;
 
 // The most bytes of a book, commands of a journal and bytes of an entry that a sample has.
 const LONGEST: usize = 58_368;
@@ -17,10 +18,16 @@ const LONGEST_ENTRY: usize = 60;
 
 // Compares the answer to the first n bytes of b, an entry, with the one behind them. Both are read
 // first: b is as long as they are.
-fn answered(book: &mut [u8], b: &mut [u8], n: usize, t: &mut [u64; PLACES]) -> bool
+fn answered<R: Read>(
+    reader: &mut R,
+    book: &mut [u8],
+    b: &mut [u8],
+    n: usize,
+    t: &mut [u64; PLACES],
+) -> bool
     requires { n ≤ length b.old }
 {
-    if !fill(b) {
+    if !fill(reader, b) {
         return false;
     }
     let a = apply(book, &b[..n]);
@@ -29,19 +36,19 @@ fn answered(book: &mut [u8], b: &mut [u8], n: usize, t: &mut [u64; PLACES]) -> b
     true
 }
 
-fn command(book: &mut [u8], t: &mut [u64; PLACES]) -> bool {
-    let length = next(1);
+fn command<R: Read>(reader: &mut R, book: &mut [u8], t: &mut [u64; PLACES]) -> bool {
+    let length = next(reader, 1);
     if (LONGEST_ENTRY as u64) < length {
         return false;
     }
     let n = length as usize;
     let mut b = [0u8; LONGEST_ENTRY + ANSWER];
-    answered(book, &mut b[..n + ANSWER], n, t)
+    answered(reader, book, &mut b[..n + ANSWER], n, t)
 }
 
 // Gives the commands that come next to the book, and says whether they are there.
-fn commands(book: &mut [u8], t: &mut [u64; PLACES]) -> bool {
-    let n = next(2);
+fn commands<R: Read>(reader: &mut R, book: &mut [u8], t: &mut [u64; PLACES]) -> bool {
+    let n = next(reader, 2);
     if MOST_COMMANDS < n {
         return false;
     }
@@ -49,7 +56,7 @@ fn commands(book: &mut [u8], t: &mut [u64; PLACES]) -> bool {
     while i < n {
         i += 1;
         t[COMMAND] = i;
-        if !command(book, t) {
+        if !command(reader, book, t) {
             return false;
         }
     }
@@ -69,14 +76,19 @@ fn compare(book: &[u8], end: &[u8], t: &mut [u64; PLACES]) {
 }
 
 // The two books are zero before, and as long as each other.
-fn replay_on(book: &mut [u8], end: &mut [u8], t: &mut [u64; PLACES]) -> bool {
-    if !records(book) {
+fn replay_on<R: Read>(
+    reader: &mut R,
+    book: &mut [u8],
+    end: &mut [u8],
+    t: &mut [u64; PLACES],
+) -> bool {
+    if !records(reader, book) {
         return false;
     }
-    if !commands(book, t) {
+    if !commands(reader, book, t) {
         return false;
     }
-    if !records(end) {
+    if !records(reader, end) {
         return false;
     }
     compare(book, end, t);
@@ -84,13 +96,13 @@ fn replay_on(book: &mut [u8], end: &mut [u8], t: &mut [u64; PLACES]) -> bool {
 }
 
 // Replays the journal that comes next, and says whether it is there.
-pub(crate) fn replay(t: &mut [u64; PLACES]) -> bool {
-    let length = next(4);
+pub(crate) fn replay<R: Read>(reader: &mut R, t: &mut [u64; PLACES]) -> bool {
+    let length = next(reader, 4);
     if (LONGEST as u64) < length {
         return false;
     }
     let n = length as usize;
     let mut book = [0u8; LONGEST];
     let mut end = [0u8; LONGEST];
-    replay_on(&mut book[..n], &mut end[..n], t)
+    replay_on(reader, &mut book[..n], &mut end[..n], t)
 }

@@ -9,14 +9,15 @@ mod recorded;
 mod tally;
 
 use fields::read::{u32_at, u64_at};
-use libc::STDOUT_FILENO;
+use std::io;
+use std::io::{Read, Write};
 use tally::{JOURNAL, PLACES};
 
 // The number of journals, which stands after the eight bytes that every sample starts with; 0 where
 // they do not stand there.
-fn header() -> u64 {
+fn header<R: Read>(reader: &mut R) -> u64 {
     let mut b = [0u8; 12];
-    if !input::fill(&mut b) {
+    if !input::fill(reader, &mut b) {
         return 0;
     }
     // LFBOOK01
@@ -27,28 +28,30 @@ fn header() -> u64 {
 }
 
 // Replays n journals, and says whether there are so many and no bytes behind them.
-fn replay_all(n: u64, t: &mut [u64; PLACES]) -> bool {
+fn replay_all<R: Read>(reader: &mut R, n: u64, t: &mut [u64; PLACES]) -> bool {
     let mut i: u64 = 0;
     while i < n {
         i += 1;
         t[JOURNAL] = i;
-        if !journal::replay(t) {
+        if !journal::replay(reader, t) {
             return false;
         }
     }
-    255 < input::next(1)
+    input::is_over(reader)
 }
 
-fn main() {
-    let n = header();
+fn main(rt: HostRuntime) -> io::Result<()> {
+    let mut reader = rt.reader();
+    let mut out = io::writer(&rt);
+    let n = header(&mut reader);
     if n == 0 {
-        io::write_all(STDOUT_FILENO, b"not a sample\n");
-        return;
+        return out.write_all(b"not a sample\n");
     }
     let mut t = [0u64; PLACES];
-    let is_whole = replay_all(n, &mut t);
-    tally::print_all(&t);
+    let is_whole = replay_all(&mut reader, n, &mut t);
+    tally::print_all(&mut out, &t)?;
     if !is_whole {
-        tally::print_stop(&t);
+        tally::print_stop(&mut out, &t)?;
     }
+    Ok(())
 }

@@ -3,7 +3,8 @@
 // from 255 down to 0, at 4 to 259.
 ghost use Rattle.std.specs.Prelude.{◌<◌};
 
-use libc::STDOUT_FILENO;
+use std::io;
+use std::io::Write;
 
 pub(crate) const PLACES: usize = 263;
 
@@ -60,65 +61,71 @@ pub(crate) fn different_book(t: &mut [u64; PLACES]) {
 // ---- printing
 
 // Writes a byte, or for # the number at this place, and answers the place whose number is next.
-fn put(byte: u8, numbers: &[u64], at: usize) -> usize {
+fn put<W: Write>(out: &mut W, byte: u8, numbers: &[u64], at: usize) -> io::Result<usize> {
     if byte != b'#' {
         let one = [byte];
-        io::write_all(STDOUT_FILENO, &one);
-        return at;
+        out.write_all(&one)?;
+        return Ok(at);
     }
     if numbers.len() <= at {
-        return at;
+        return Ok(at);
     }
-    io::print_decimal(STDOUT_FILENO, numbers[at]);
-    at + 1
+    let n = numbers[at];
+    write!(out, "{n}")?;
+    Ok(at + 1)
 }
 
 // Writes a text, each # in it as one of the numbers from this place on.
-fn print(text: &[u8], numbers: &[u64], first: usize) {
+fn print<W: Write>(out: &mut W, text: &[u8], numbers: &[u64], first: usize) -> io::Result<()> {
     let mut at = first;
     let mut i: usize = 0;
     while i < text.len() {
-        at = put(text[i], numbers, at);
+        at = put(out, text[i], numbers, at)?;
         i += 1;
     }
+    Ok(())
 }
 
 // The refusals, by their numbers.
-fn print_refused(t: &[u64; PLACES]) {
+fn print_refused<W: Write>(out: &mut W, t: &[u64; PLACES]) -> io::Result<()> {
     let mut i: u64 = 0;
     while i <= 249 {
         let n = t[259 - i as usize];
         if n != 0 {
             let line = [i, n];
-            print(b"refused #: #\n", &line, 0);
+            print(out, b"refused #: #\n", &line, 0)?;
         }
         i += 1;
     }
+    Ok(())
 }
 
 // What differs stands first: of what a run prints, a failing check shows the beginning.
-pub(crate) fn print_all(t: &[u64; PLACES]) {
+pub(crate) fn print_all<W: Write>(out: &mut W, t: &[u64; PLACES]) -> io::Result<()> {
     if t[FIRST_JOURNAL] != 0 {
         print(
+            out,
             b"the first difference is in journal # command #\n",
             t,
             FIRST_JOURNAL,
-        );
+        )?;
     }
     print(
+        out,
         b"journals #\ncommands #\ndifferent answers #\ndifferent books #\n\
           opened #\nused #\nwait #\nsettle #\nvoid #\ndone #\n",
         t,
         0,
-    );
-    print_refused(t);
+    )?;
+    print_refused(out, t)
 }
 
 // Where the sample could not be read on.
-pub(crate) fn print_stop(t: &[u64; PLACES]) {
+pub(crate) fn print_stop<W: Write>(out: &mut W, t: &[u64; PLACES]) -> io::Result<()> {
     print(
+        out,
         b"the sample is short, damaged or too long in journal #, after # commands\n",
         t,
         JOURNAL,
-    );
+    )
 }
