@@ -2,35 +2,55 @@
 // prints how many lines are the same.
 #![tactic(auto)]
 
-ghost use Rattle.io.specs.Counts.{IsPrefixLen};
+ghost use Rattle.std.specs.Prelude.{ℕ, ◌<◌, List, length, take, IfOk};
+ghost use Rattle.std.specs.Counts.{IsPrefixLen};
+ghost use Rattle.std.specs.Io.{ReadsAtMost};
+ghost use Rattle.std.specs.Io.KnownBytes.{Consumes, IsAtEnd};
 
 use journal::sheet::write_sheet;
-use libc::STDOUT_FILENO;
+use std::io::Read;
+use std::rt::Files;
+use std::{fs, io};
 
 // More bytes than an example's journal and its sheet have.
 const JOURNAL: usize = 4096;
 
 const SHEET: usize = 65536;
 
-fn print(text: &[u8]) {
-    io::write_all(STDOUT_FILENO, text);
+fn print(rt: &impl Print, text: &[u8]) -> io::Result<()> {
+    rt.write_all(text)
+}
+
+// Reads until buf is full or nothing is left, and answers how many bytes it put at the front of
+// buf.
+fn read_full<R: Read>(reader: &mut R, buf: &mut [u8]) -> io::Result<usize>
+    ensures bound { ReadsAtMost result buf.new }
+    ensures bytes { IfOk result (λ n. Consumes (R.remaining reader.old) (R.remaining reader.new) (take n buf.new)) }
+    ensures end { IfOk result (λ n. n < length buf.new → IsAtEnd (R.remaining reader.new)) }
+{
+    let mut done = 0;
+    while done < buf.len() {
+        let n = reader.read(&mut buf[done..])?;
+        if n == 0 {
+            return Ok(done);
+        }
+        done += n;
+    }
+    Ok(done)
 }
 
 // Reads a whole file to the front of buf and answers its length; 0 where it cannot be read or does
 // not fit.
-fn load(path: &[u8], buf: &mut [u8]) -> usize
+fn load<R: Files>(rt: &R, path: &str, buf: &mut [u8]) -> usize
     ensures { IsPrefixLen result buf.new }
 {
-    let fd = os::open_read(path);
-    if fd < 0 {
+    let Ok(mut file) = fs::open(rt, path) else {
         return 0;
+    };
+    match read_full(&mut file, buf) {
+        Ok(n) if n < buf.len() => n,
+        _ => 0,
     }
-    let n = io::read_full(fd, buf);
-    libc::close(fd);
-    if n == buf.len() {
-        return 0;
-    }
-    n
 }
 
 // Writes the sheet of a journal to the front of out and answers its length.
@@ -79,57 +99,83 @@ fn lines_before(text: &[u8], end: usize) -> u64 {
     lines
 }
 
-fn compare(ours: &[u8], expected: &[u8]) {
+fn compare(rt: &impl Print, ours: &[u8], expected: &[u8]) -> io::Result<()> {
     let at = first_difference(ours, expected);
     if at == ours.len() && at == expected.len() {
-        print(b": same, lines ");
+        print(rt, b": same, lines ")?;
     } else {
-        print(b": differs after line ");
+        print(rt, b": differs after line ")?;
     }
-    io::print_decimal(STDOUT_FILENO, lines_before(ours, at));
-    print(b"\n");
+    let lines = lines_before(ours, at);
+    print!(rt; "{lines}")?;
+    print(rt, b"\n")
 }
 
-fn example(name: &[u8], journal_path: &[u8], sheet_path: &[u8]) {
-    print(name);
+fn example<R: Files + Print>(
+    rt: &R,
+    name: &[u8],
+    journal_path: &str,
+    sheet_path: &str,
+) -> io::Result<()> {
+    print(rt, name)?;
     let mut journal = [0u8; JOURNAL];
-    let n = load(journal_path, &mut journal);
+    let n = load(rt, journal_path, &mut journal);
     let mut expected = [0u8; SHEET];
-    let m = load(sheet_path, &mut expected);
+    let m = load(rt, sheet_path, &mut expected);
     if n == 0 || m == 0 {
-        print(b": its journal or its sheet cannot be read, or is too long\n");
-        return;
+        return print(
+            rt,
+            b": its journal or its sheet cannot be read, or is too long\n",
+        );
     }
     let mut out = [0u8; SHEET];
     let written = sheet_of(&journal[..n], &mut out);
-    compare(&out[..written], &expected[..m]);
+    compare(rt, &out[..written], &expected[..m])
 }
 
-fn main() {
-    example(b"paper", b"paper.journal", b"paper.sheet");
-    example(b"window", b"window.journal", b"window.sheet");
-    example(b"next_print", b"next_print.journal", b"next_print.sheet");
+fn main(rt: HostRuntime) -> io::Result<()> {
+    example(&rt, b"paper", "paper.journal", "paper.sheet")?;
+    example(&rt, b"window", "window.journal", "window.sheet")?;
+    example(&rt, b"next_print", "next_print.journal", "next_print.sheet")?;
     example(
+        &rt,
         b"partial_next_print",
-        b"partial_next_print.journal",
-        b"partial_next_print.sheet",
-    );
+        "partial_next_print.journal",
+        "partial_next_print.sheet",
+    )?;
     example(
+        &rt,
         b"partial_window",
-        b"partial_window.journal",
-        b"partial_window.sheet",
-    );
-    example(b"fallback", b"fallback.journal", b"fallback.sheet");
-    example(b"void", b"void.journal", b"void.sheet");
-    example(b"hostile_day", b"hostile_day.journal", b"hostile_day.sheet");
-    example(b"before_1970", b"before_1970.journal", b"before_1970.sheet");
-    example(b"withdraw", b"withdraw.journal", b"withdraw.sheet");
-    example(b"voted", b"voted.journal", b"voted.sheet");
-    example(b"scheduled", b"scheduled.journal", b"scheduled.sheet");
+        "partial_window.journal",
+        "partial_window.sheet",
+    )?;
+    example(&rt, b"fallback", "fallback.journal", "fallback.sheet")?;
+    example(&rt, b"void", "void.journal", "void.sheet")?;
     example(
+        &rt,
+        b"hostile_day",
+        "hostile_day.journal",
+        "hostile_day.sheet",
+    )?;
+    example(
+        &rt,
+        b"before_1970",
+        "before_1970.journal",
+        "before_1970.sheet",
+    )?;
+    example(&rt, b"withdraw", "withdraw.journal", "withdraw.sheet")?;
+    example(&rt, b"voted", "voted.journal", "voted.sheet")?;
+    example(&rt, b"scheduled", "scheduled.journal", "scheduled.sheet")?;
+    example(
+        &rt,
         b"posted_in_order",
-        b"posted_in_order.journal",
-        b"posted_in_order.sheet",
-    );
-    example(b"posted_late", b"posted_late.journal", b"posted_late.sheet");
+        "posted_in_order.journal",
+        "posted_in_order.sheet",
+    )?;
+    example(
+        &rt,
+        b"posted_late",
+        "posted_late.journal",
+        "posted_late.sheet",
+    )
 }
