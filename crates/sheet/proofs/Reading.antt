@@ -1,23 +1,16 @@
 -- A turn of the loop: one part more for the reader.
-use Prim.Native.Nat.{ℕ, ◌+◌, ◌-◌, ◌≤◌, ◌<◌}
+use Prim.Native.Nat.{ℕ, ◌+◌, ◌≤◌, ◌<◌}
 use mathlib.Core.Path.{◌≡◌, refl, sym, ap, ◌∙◌}
 use mathlib.Core.Bool.{Bool, true, false, ◌||◌, true≢false}
 use mathlib.Core.List.{◌++◌}
 use native.Mathlib.Omega.{arith}
-use lib.IntN.{ℤ, pos, negsuc}
-use Rattle.io.specs.Counts.{clamp_len}
-use Rattle.libc.specs.Io.{Moved}
 use lib.ListN.{length, take, drop, length-append, length-drop}
 use lib.Seq.{length-take-le, take-add}
-use borrow.Rule.Slice.PartMut.{mid_of, put_mid, take_put, mid_len, same_len_mid}
-use Rattle.rules.specs.Log.{Log, ε, ◌▹◌}
-use Rattle.rules.specs.Bytes.{Bytes, zeros}
-use Rattle.rules.specs.Record.{book_size}
+use Rattle.rules.specs.Log.{Log}
+use Rattle.rules.specs.Bytes.{Bytes}
 use Rattle.journal.specs.Parts.{Reader, on, reads, read_all, joined}
 use Rattle.sheet.specs.declared.Left.{Left}
-use Rattle.sheet.specs.declared.Next.{Next}
-use Rattle.sheet.specs.declared.Next.TheVariants as N
-use Rattle.sheet.specs.Holds.{Holds, at_most64, Reading, OneMore, Over, GoesOn}
+use Rattle.sheet.specs.Holds.{Holds, at_most64, Reading, OneMore, Over}
 
 -- the bytes that a reader holds may as well come with the others
 together : (last : Bool) (r : Reader) (bytes : Bytes) → r.ended ≡ false
@@ -77,49 +70,7 @@ module _ (parts : Log Bytes) (book₀ part₁ : Bytes) (held read n : ℕ) (was 
       let (b, k, t) = reads-part last h in
       record { last = last; bytes = came; booked = b; ends = ap (λ (x : Bool). last || x) (sym t) ∙ o }
 
--- what a read puts behind the held bytes stands in the part
-module _ (part₀ got : Bytes) (held : ℕ) (starts : held ≤ length part₀) where
-  room : length (mid_of held (length part₀ - held) part₀) ≡ length part₀ - held
-  room = mid_len held (length part₀) part₀ (omega arith)
-
-  fits : (z : ℤ) (most : ℕ) → Moved (length (mid_of held (length part₀ - held) part₀)) z → held + clamp_len z most ≤ length part₀
-  fits (pos k) most h = omega (arith, h, room)
-  fits (negsuc k) most h = omega arith
-
-  pub inside : (z : ℤ) (most : ℕ) {n : ℕ} → Moved (length (mid_of held (length part₀ - held) part₀)) z → n ≡ clamp_len z most
-      → length got ≡ length (mid_of held (length part₀ - held) part₀)
-      → held + n ≤ length (put_mid held (length part₀ - held) part₀ got)
-  inside z most m c k = omega (arith, c, fits z most m, same_len_mid held (length part₀ - held) part₀ got k)
-
--- a read leaves the held bytes as they were
-module _ (book₀ part₀ got : Bytes) (held read : ℕ) (starts : held ≤ length part₀) where
-  abbrev part₁ : Bytes
-  part₁ = put_mid held (length part₀ - held) part₀ got
-
-  still : {parts : Log Bytes} → Reading parts book₀ part₀ held read → Reading parts book₀ part₁ held read
-  still was =
-      record {
-        booked = was.booked;
-        keeps = take_put held (length part₀ - held) part₀ got starts ∙ was.keeps;
-        goes = was.goes;
-        counted = was.counted;
-        short = was.short;
-      }
-
-  pub behind : (r : Next) (book part : Bytes) → GoesOn r book₀ part₁ held read book part → GoesOn r book₀ part₀ held read book part
-  behind (N.On h n) book part goes = λ parts was. goes parts (still was)
-  behind N.Ended book part goes = λ parts was. goes parts (still was)
-  behind N.Failed book part goes = tt
-
 -- some parts have been read
 pub record Started (book part : Bytes) (held read : ℕ) : Type 0 where
   pub parts : Log Bytes
   pub reading : Reading parts book part held read
-
-pub started : {book : Bytes} → book ≡ zeros book_size → (part : Bytes) → Started book part 0 0
-started b part = record { parts = ε; reading = record { booked = b; keeps = refl; goes = refl; counted = refl; short = omega arith } }
-
-pub onward : {book₀ part₀ book part : Bytes} {held₀ read₀ held read : ℕ} → Started book₀ part₀ held₀ read₀
-    → ((parts : Log Bytes) → Reading parts book₀ part₀ held₀ read₀ → OneMore parts book part held read)
-    → Started book part held read
-onward s turn = let m = turn s.parts s.reading in record { parts = s.parts ▹ m.bytes; reading = m.reading }

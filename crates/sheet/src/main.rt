@@ -11,11 +11,20 @@ ghost use Rattle.sheet.specs.Holds.{Holds, at_most64, GoesOn};
 
 use book::look::BOOK_SIZE;
 use journal::feed::feed;
-use libc::{STDERR_FILENO, STDIN_FILENO, STDOUT_FILENO};
+use std::io::{Read, Write};
 
-// Room for the lines of a part of the journal of 65,536 bytes, the most that is read at once: a
-// command has ten bytes at least, and its line 96 at most. As in `io::large_buffer`, the `ensures`
-// gives the length alone, so that nobody computes the array.
+// The most that is read at once. As with the other buffer, the `ensures` gives the length alone, so
+// that nobody computes the array.
+const PART: usize = 65536;
+
+fn part_buffer() -> [u8; PART]
+    ensures { 65536 ≡ length result }
+{
+    [0; PART]
+}
+
+// Room for the lines of such a part of the journal: a command has ten bytes at least, and its line
+// 96 at most.
 const LINES: usize = 655360;
 
 fn lines_buffer() -> [u8; LINES]
@@ -42,19 +51,23 @@ enum Next {
     Failed,
 }
 
-// Says on standard error what failed, and after which byte of the journal.
-fn fail(what: &[u8], read: u64) {
-    io::write_all(STDERR_FILENO, what);
-    io::print_decimal(STDERR_FILENO, read);
-    io::write_all(STDERR_FILENO, b" of the journal\n");
+// Says what failed, and after which byte of the journal. Where that cannot be said either, there is
+// nobody left to tell.
+fn fail(err: &mut impl Write, what: &[u8], read: u64) {
+    let _ = err.write_all(what);
+    let _ = writeln!(err, "{read} of the journal");
 }
 
-// Writes the lines, and says whether that went well.
-fn write(lines: &[u8], read: u64) -> bool {
-    if io::write_all(STDOUT_FILENO, lines) {
+// Writes the lines out, and says whether that went well.
+fn write(to: &mut impl Write, err: &mut impl Write, lines: &[u8], read: u64) -> bool {
+    if to.write_all(lines).is_ok() && to.flush().is_ok() {
         return true;
     }
-    fail(b"sheet: cannot write standard output after byte ", read);
+    fail(
+        err,
+        b"sheet: cannot write standard output after byte ",
+        read,
+    );
     false
 }
 
@@ -100,6 +113,8 @@ fn give(book: &mut [u8], part: &mut [u8], end: usize, last: bool, out: &mut [u8]
 
 // Gives the n bytes behind the held ones to the book, and writes their lines.
 fn hand_on(
+    to: &mut impl Write,
+    err: &mut impl Write,
     book: &mut [u8],
     part: &mut [u8],
     out: &mut [u8],
@@ -116,7 +131,7 @@ fn hand_on(
     let left = give(book, part, end, n == 0, out);
     let written = left.written;
     let after = plus(read, n);
-    if !write(&out[..written], after) {
+    if !write(to, err, &out[..written], after) {
         return Next::Failed;
     }
     if (n == 0) | left.ended {
@@ -129,22 +144,38 @@ fn hand_on(
 }
 
 // Reads once, and writes the lines of what came.
-fn turn(book: &mut [u8], part: &mut [u8], out: &mut [u8], held: usize, read: u64) -> Next
+fn turn(
+    from: &mut impl Read,
+    to: &mut impl Write,
+    err: &mut impl Write,
+    book: &mut [u8],
+    part: &mut [u8],
+    out: &mut [u8],
+    held: usize,
+    read: u64,
+) -> Next
     requires held_bound { held < 46 }
     requires value { 65536 ≡ length part.old }
     requires value_2 { 655360 ≡ length out.old }
     ensures { GoesOn result book.old part.old held read book.new part.new }
 {
-    let got = libc::read(STDIN_FILENO, &mut part[held..]);
-    if got < 0 {
-        fail(b"sheet: cannot read standard input after byte ", read);
-        return Next::Failed;
+    match from.read(&mut part[held..]) {
+        Ok(n) => hand_on(to, err, book, part, out, held, n, read),
+        Err(_) => {
+            fail(err, b"sheet: cannot read standard input after byte ", read);
+            Next::Failed
+        }
     }
-    let n = io::count(got, part);
-    hand_on(book, part, out, held, n, read)
 }
 
-fn run(book: &mut [u8], part: &mut [u8], out: &mut [u8])
+fn run(
+    from: &mut impl Read,
+    to: &mut impl Write,
+    err: &mut impl Write,
+    book: &mut [u8],
+    part: &mut [u8],
+    out: &mut [u8],
+)
     requires book_value { book.old ≡ zeros book_size }
     requires value { 65536 ≡ length part.old }
     requires value_2 { 655360 ≡ length out.old }
@@ -154,7 +185,7 @@ fn run(book: &mut [u8], part: &mut [u8], out: &mut [u8])
     // A proved loop has to end, and nothing says that an input does.
     let mut turns = u64::MAX;
     while turns > 0 {
-        let t = turn(book, part, out, held, read);
+        let t = turn(from, to, err, book, part, out, held, read);
         let Next::On { held: h, read: r } = t else {
             return;
         };
@@ -164,9 +195,12 @@ fn run(book: &mut [u8], part: &mut [u8], out: &mut [u8])
     }
 }
 
-fn main() {
+fn main(rt: HostRuntime) {
     let mut book = [0u8; BOOK_SIZE];
-    let mut part = io::large_buffer();
+    let mut part = part_buffer();
     let mut out = lines_buffer();
-    run(&mut book, &mut part, &mut out);
+    let mut from = rt.stdin();
+    let mut to = rt.stdout();
+    let mut err = rt.stderr();
+    run(&mut from, &mut to, &mut err, &mut book, &mut part, &mut out);
 }
