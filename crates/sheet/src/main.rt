@@ -2,11 +2,15 @@
 // each answer to standard output.
 #![tactic(auto)]
 
-ghost use Rattle.std.specs.Prelude.{◌+◌, ◌-◌, ◌≤◌, ◌<◌, ◌≡◌, false, length, take, drop};
+ghost use Rattle.std.specs.Prelude.{◌==◌, IfSome, ◌+◌, ◌-◌, ◌≤◌, ◌<◌, ◌≡◌, true, false, length, take, drop};
 ghost use Rattle.std.proofs.lemmas.List.Edits.{sets};
+ghost use Rattle.std.specs.Io.KnownBytes.{Appends};
 ghost use Rattle.rules.specs.Bytes.{zeros};
+ghost use Rattle.rules.specs.Book.{run};
+ghost use Rattle.rules.specs.Journal.{journal_entries, sheet};
 ghost use Rattle.rules.specs.Record.{book_size};
 ghost use Rattle.journal.specs.Parts.{on, reads};
+ghost use Rattle.sheet.specs.Told.{HandsOn, Turns};
 ghost use Rattle.sheet.specs.Holds.{Holds, at_most64, GoesOn};
 
 use book::look::BOOK_SIZE;
@@ -59,7 +63,9 @@ fn fail(err: &mut impl Write, what: &[u8], read: u64) {
 }
 
 // Writes the lines out, and says whether that went well.
-fn write(to: &mut impl Write, err: &mut impl Write, lines: &[u8], read: u64) -> bool {
+fn write<W: Write>(to: &mut W, err: &mut impl Write, lines: &[u8], read: u64) -> bool
+    ensures { result ≡ true → Appends (W.contents to.old) (W.contents to.new) lines.now }
+{
     if to.write_all(lines).is_ok() && to.flush().is_ok() {
         return true;
     }
@@ -112,8 +118,8 @@ fn give(book: &mut [u8], part: &mut [u8], end: usize, last: bool, out: &mut [u8]
 }
 
 // Gives the n bytes behind the held ones to the book, and writes their lines.
-fn hand_on(
-    to: &mut impl Write,
+fn hand_on<W: Write>(
+    to: &mut W,
     err: &mut impl Write,
     book: &mut [u8],
     part: &mut [u8],
@@ -125,7 +131,9 @@ fn hand_on(
     requires n_in_bounds { held + n ≤ length part.old }
     requires value { 65536 ≡ length part.old }
     requires value_2 { 655360 ≡ length out.old }
-    ensures { GoesOn result book.old part.old held read book.new part.new }
+    ensures goes_on { GoesOn result book.old part.old held read book.new part.new }
+    ensures hands_on { HandsOn result (n == 0) (take n (drop held part.old)) book.old part.old held read book.new part.new
+        (W.contents to.old) (W.contents to.new) }
 {
     let end = held + n;
     let left = give(book, part, end, n == 0, out);
@@ -144,9 +152,9 @@ fn hand_on(
 }
 
 // Reads once, and writes the lines of what came.
-fn turn(
-    from: &mut impl Read,
-    to: &mut impl Write,
+fn turn<R: Read, W: Write>(
+    from: &mut R,
+    to: &mut W,
     err: &mut impl Write,
     book: &mut [u8],
     part: &mut [u8],
@@ -157,7 +165,9 @@ fn turn(
     requires held_bound { held < 46 }
     requires value { 65536 ≡ length part.old }
     requires value_2 { 655360 ≡ length out.old }
-    ensures { GoesOn result book.old part.old held read book.new part.new }
+    ensures goes_on { GoesOn result book.old part.old held read book.new part.new }
+    ensures turns { Turns result book.old part.old held read book.new part.new
+        (R.remaining from.old) (R.remaining from.new) (W.contents to.old) (W.contents to.new) }
 {
     match from.read(&mut part[held..]) {
         Ok(n) => hand_on(to, err, book, part, out, held, n, read),
@@ -168,31 +178,39 @@ fn turn(
     }
 }
 
-fn run(
-    from: &mut impl Read,
-    to: &mut impl Write,
+// Gives the whole journal to the book, and writes its sheet. Answers whether the journal has ended,
+// and not the reading of it or the writing.
+fn run<R: Read, W: Write>(
+    from: &mut R,
+    to: &mut W,
     err: &mut impl Write,
     book: &mut [u8],
     part: &mut [u8],
     out: &mut [u8],
-)
+) -> bool
     requires book_value { book.old ≡ zeros book_size }
     requires value { 65536 ≡ length part.old }
     requires value_2 { 655360 ≡ length out.old }
+    ensures written { result ≡ true → IfSome (R.remaining from.old) (λ journal.
+        Appends (W.contents to.old) (W.contents to.new) (sheet (journal_entries journal))) }
+    ensures booked { result ≡ true → IfSome (R.remaining from.old) (λ journal. book.new ≡ run (journal_entries journal)) }
 {
     let mut held: usize = 0;
     let mut read: u64 = 0;
     // A proved loop has to end, and nothing says that an input does.
     let mut turns = u64::MAX;
     while turns > 0 {
-        let t = turn(from, to, err, book, part, out, held, read);
-        let Next::On { held: h, read: r } = t else {
-            return;
-        };
-        held = h;
-        read = r;
+        match turn(from, to, err, book, part, out, held, read) {
+            Next::On { held: h, read: r } => {
+                held = h;
+                read = r;
+            }
+            Next::Ended => return true,
+            Next::Failed => return false,
+        }
         turns -= 1;
     }
+    false
 }
 
 fn main(rt: HostRuntime) {
