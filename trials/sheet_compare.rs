@@ -519,7 +519,7 @@ fn failures(trial: &mut Trial, random: &mut Random) -> Result<(), String> {
     let full = File::create("/dev/full").map_err(|e| format!("/dev/full: {e}"))?;
     let end = stops(trial.ours, &short, full.into())?;
     has_said(&end, &message(NO_OUTPUT, short.len())).map_err(|e| format!("with a full file, its input open: {e}"))?;
-    // The signal SIGPIPE ends it: it cannot say anything.
+    // It says that it cannot write, as above; that it ends is all that is asked here.
     stops(trial.ours, &short, Stdio::piped()).map(|_| ())
 }
 
