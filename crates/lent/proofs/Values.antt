@@ -1,4 +1,5 @@
--- What the two walks share: of each type that they hold, the laws that a walk cites; the parameters beside the state; and the fact that both contracts say.
+-- For a walk by hand over the two calls: of each type that they hold, the laws that it cites; the parameters beside the state; and the fact that both contracts say.
+-- No walk is needed today, since the check covers lent state.
 -- Assumes nothing.
 use mathlib.Core.Path.{◌≡◌, subst}
 use mathlib.Core.List.{[], ◌∷◌, List}
