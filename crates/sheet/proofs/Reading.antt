@@ -32,16 +32,16 @@ unfolding reads
 together last r bytes goes = rw goes (refl, refl, refl)
 
 -- they give the lines that the reader has more
-more-lines : (last : Bool) (r : Reader) (bytes : Bytes) → r.ended ≡ false
+more_lines : (last : Bool) (r : Reader) (bytes : Bytes) → r.ended ≡ false
     → (reads last r bytes).lines ≡ r.lines ++ (reads last (on r.book) (r.held ++ bytes)).lines
 unfolding reads
-more-lines last r bytes goes = rw goes refl
+more_lines last r bytes goes = rw goes refl
 
-appends-on : (to₀ to₁ to : Option Bytes) (k ls : Bytes) → Appends to₁ to ls → Appends to₀ to₁ k → Appends to₀ to (k ++ ls)
-appends-on None to₁ to k ls w a = tt
-appends-on (Some xs) None to k ls w a = absurd a
-appends-on (Some xs) (Some ys) None k ls w a = absurd w
-appends-on (Some xs) (Some ys) (Some zs) k ls w a = w ∙ ap (λ (l : Bytes). l ++ ls) a ∙ append_assoc xs k ls
+appends_on : (to₀ to₁ to : Option Bytes) (k ls : Bytes) → Appends to₁ to ls → Appends to₀ to₁ k → Appends to₀ to (k ++ ls)
+appends_on None to₁ to k ls w a = tt
+appends_on (Some xs) None to k ls w a = absurd a
+appends_on (Some xs) (Some ys) None k ls w a = absurd w
+appends_on (Some xs) (Some ys) (Some zs) k ls w a = w ∙ ap (λ (l : Bytes). l ++ ls) a ∙ append_assoc xs k ls
 
 neither : (a b : Bool) → a || b ≡ false → (a ≡ false) × (b ≡ false)
 neither true b o = absurd (true≢false o)
@@ -67,12 +67,12 @@ module _ (parts : Log Bytes) (book₀ part₁ : Bytes) (held read n : ℕ) (was 
       let h = rw (whole, was.booked) at h in
       (h.booked ∙ same-book, h.held ∙ same-held, h.ended ∙ same_ended)
 
-  pub reading-on : {last : Bool} {left : Left} {book₂ part₂ out₂ : Bytes} {read₂ : ℕ}
+  pub reading_on : {last : Bool} {left : Left} {book₂ part₂ out₂ : Bytes} {read₂ : ℕ}
       → held + n ≤ length part₁
       → Holds left book₂ part₂ out₂ (reads last (on book₀) (take (held + n) part₁))
       → last || left.ended ≡ false → (last ≡ false → left.ended ≡ false → left.held < 46) → read₂ ≡ at_most64 (read + n)
       → Reading (parts ▹ came) book₂ part₂ left.held read₂
-  reading-on {last} {left} inside h o short count =
+  reading_on {last} {left} inside h o short count =
       let (l, e) = neither last left.ended o in
       let (b, k, t) = rw l at (reads-part last h) in
       record {
@@ -88,7 +88,7 @@ module _ (parts : Log Bytes) (book₀ part₁ : Bytes) (held read n : ℕ) (was 
       → Holds left book₂ part₂ out₂ (reads last (on book₀) (take (held + n) part₁))
       → last || left.ended ≡ false → (last ≡ false → left.ended ≡ false → left.held < 46) → read₂ ≡ at_most64 (read + n)
       → OneMore parts book₂ part₂ left.held read₂
-  reads_on inside h o short count = record { bytes = came; reading = reading-on inside h o short count }
+  reads_on inside h o short count = record { bytes = came; reading = reading_on inside h o short count }
 
   pub reads-last : (last : Bool) {left : Left} {book₂ part₂ out₂ : Bytes}
       → Holds left book₂ part₂ out₂ (reads last (on book₀) (take (held + n) part₁)) → last || left.ended ≡ true → Over parts book₂
@@ -96,35 +96,35 @@ module _ (parts : Log Bytes) (book₀ part₁ : Bytes) (held read n : ℕ) (was 
       let (b, k, t) = reads-part last h in
       record { last = last; bytes = came; booked = b; ends = ap (λ (x : Bool). last || x) (sym t) ∙ o }
 
-  lines-part : (last : Bool) {left : Left} {book₂ part₂ out₂ : Bytes} → Holds left book₂ part₂ out₂ (reads last (on book₀) (take (held + n) part₁))
+  lines_part : (last : Bool) {left : Left} {book₂ part₂ out₂ : Bytes} → Holds left book₂ part₂ out₂ (reads last (on book₀) (take (held + n) part₁))
       → (reads last (read_all parts) came).lines ≡ (read_all parts).lines ++ take left.written out₂
-  lines-part last h =
+  lines_part last h =
       let h = rw (whole, was.booked) at h in
-      more-lines last (read_all parts) came was.goes ∙ ap (λ (xs : Bytes). (read_all parts).lines ++ xs) (sym h.lines)
+      more_lines last (read_all parts) came was.goes ∙ ap (λ (xs : Bytes). (read_all parts).lines ++ xs) (sym h.lines)
 
-  pub ends-with : (last : Bool) {left : Left} {book₂ part₂ out₂ : Bytes} {to₁ to : Option Bytes}
+  pub ends_with : (last : Bool) {left : Left} {book₂ part₂ out₂ : Bytes} {to₁ to : Option Bytes}
       → Holds left book₂ part₂ out₂ (reads last (on book₀) (take (held + n) part₁)) → last || left.ended ≡ true → Appends to₁ to (take left.written out₂)
       → Ends parts last came book₂ to₁ to
-  ends-with last {to₁ = to₁} {to} h o w =
+  ends_with last {to₁ = to₁} {to} h o w =
       let (b, k, t) = reads-part last h in
       record {
         booked = b;
         ends = ap (λ (x : Bool). last || x) (sym t) ∙ o;
-        tells = λ to₀ a. rw (lines-part last h) (appends-on to₀ to₁ to (read_all parts).lines _ w a);
+        tells = λ to₀ a. rw (lines_part last h) (appends_on to₀ to₁ to (read_all parts).lines _ w a);
       }
 
-  pub goes-with : {last : Bool} {left : Left} {book₂ part₂ out₂ : Bytes} {read₂ : ℕ} {to₁ to : Option Bytes}
+  pub goes_with : {last : Bool} {left : Left} {book₂ part₂ out₂ : Bytes} {read₂ : ℕ} {to₁ to : Option Bytes}
       → held + n ≤ length part₁
       → Holds left book₂ part₂ out₂ (reads last (on book₀) (take (held + n) part₁))
       → last || left.ended ≡ false → (last ≡ false → left.ended ≡ false → left.held < 46) → read₂ ≡ at_most64 (read + n)
       → Appends to₁ to (take left.written out₂)
       → Goes parts came book₂ part₂ left.held read₂ to₁ to
-  goes-with {last} {left} {to₁ = to₁} {to} inside h o short count w =
+  goes_with {last} {left} {to₁ = to₁} {to} inside h o short count w =
       let (l, e) = neither last left.ended o in
-      let q = rw l at (lines-part last h) in
+      let q = rw l at (lines_part last h) in
       record {
-        reading = reading-on inside h o short count;
-        tells = λ to₀ a. rw q (appends-on to₀ to₁ to (read_all parts).lines _ w a);
+        reading = reading_on inside h o short count;
+        tells = λ to₀ a. rw q (appends_on to₀ to₁ to (read_all parts).lines _ w a);
       }
 
 -- a read leaves the held bytes as they were, and puts what came behind them
@@ -142,16 +142,16 @@ module _ (book₀ part₀ got : Bytes) (held read : ℕ) (starts : held ≤ leng
         short = was.short;
       }
 
-  came-is : (n : ℕ) → n ≤ length got → take n (drop held part₁) ≡ take n got
-  came-is n h =
+  came_is : (n : ℕ) → n ≤ length got → take n (drop held part₁) ≡ take n got
+  came_is n h =
       ap (take n) (drop_at (take held part₀) (got ++ post_of held (length part₀ - held) part₀) held (length-take-le held part₀ starts))
       ∙ take-append-le n got (post_of held (length part₀ - held) part₀) h
 
-  pub hands-still : (r : Next) (last : Bool) (bytes book part : Bytes) (to₁ to : Option Bytes)
+  pub hands_still : (r : Next) (last : Bool) (bytes book part : Bytes) (to₁ to : Option Bytes)
       → HandsOn r last bytes book₀ part₁ held read book part to₁ to → HandsOn r last bytes book₀ part₀ held read book part to₁ to
-  hands-still (N.On h n) last bytes book part to₁ to on = λ parts was. on parts (still was)
-  hands-still N.Ended last bytes book part to₁ to on = λ parts was. on parts (still was)
-  hands-still N.Failed last bytes book part to₁ to on = tt
+  hands_still (N.On h n) last bytes book part to₁ to on = λ parts was. on parts (still was)
+  hands_still N.Ended last bytes book part to₁ to on = λ parts was. on parts (still was)
+  hands_still N.Failed last bytes book part to₁ to on = tt
 
   pub turned : (r : Next) (n : ℕ) (book part : Bytes) (from₁ from to₁ to : Option Bytes) → n ≤ length got
       → Consumes from₁ from (take n got) → (n ≡ 0 → 0 < length got → IsAtEnd from) → 0 < length got
@@ -161,9 +161,9 @@ module _ (book₀ part₀ got : Bytes) (held read : ℕ) (starts : held ≤ leng
       record {
         last = eqb n 0;
         bytes = take n (drop held part₁);
-        came = rw (came-is n h) c;
+        came = rw (came_is n h) c;
         over = λ l. (ap (λ (k : ℕ). take k (drop held part₁)) (eqb-true n 0 l), e (eqb-true n 0 l) some);
-        done = hands-still r (eqb n 0) (take n (drop held part₁)) book part to₁ to on;
+        done = hands_still r (eqb n 0) (take n (drop held part₁)) book part to₁ to on;
       }
 
 -- some parts have been read, and their lines written
@@ -173,11 +173,11 @@ pub record Started (book part : Bytes) (held read : ℕ) (from₀ from to₀ to 
   pub came : Consumes from₀ from (joined parts)
   pub told : Appends to₀ to (read_all parts).lines
 
-consumes-on : (from₀ from₁ from : Option Bytes) (k bs : Bytes) → Consumes from₀ from₁ k → Consumes from₁ from bs → Consumes from₀ from (k ++ bs)
-consumes-on None from₁ from k bs c d = tt
-consumes-on (Some xs) None from k bs c d = absurd c
-consumes-on (Some xs) (Some ys) None k bs c d = absurd d
-consumes-on (Some xs) (Some ys) (Some zs) k bs c d = c ∙ ap (λ (l : Bytes). k ++ l) d ∙ sym (append_assoc k bs zs)
+consumes_on : (from₀ from₁ from : Option Bytes) (k bs : Bytes) → Consumes from₀ from₁ k → Consumes from₁ from bs → Consumes from₀ from (k ++ bs)
+consumes_on None from₁ from k bs c d = tt
+consumes_on (Some xs) None from k bs c d = absurd c
+consumes_on (Some xs) (Some ys) None k bs c d = absurd d
+consumes_on (Some xs) (Some ys) (Some zs) k bs c d = c ∙ ap (λ (l : Bytes). k ++ l) d ∙ sym (append_assoc k bs zs)
 
 -- a reader that has ended stays as it is
 stays : (last : Bool) (r : Reader) (bytes : Bytes) → r.ended ≡ true → reads last r bytes ≡ r
@@ -191,26 +191,26 @@ Whole r journal = (r.lines ≡ sheet (journal_entries journal)) × (r.book ≡ r
 finished : (parts : Log Bytes) (r : Reader) (journal : Bytes) → finish parts ≡ r → joined parts ≡ journal → Whole r journal
 finished parts r journal e f = rw (← e, ← f) (any_parts.lines parts, any_parts.book parts)
 
-ended-whole : (parts : Log Bytes) (last : Bool) (bytes rest : Bytes) → last || (reads last (read_all parts) bytes).ended ≡ true
+ended_whole : (parts : Log Bytes) (last : Bool) (bytes rest : Bytes) → last || (reads last (read_all parts) bytes).ended ≡ true
     → (last ≡ true → (bytes ≡ []) × (rest ≡ []))
     → Whole (reads last (read_all parts) bytes) ((joined parts ++ bytes) ++ rest)
-ended-whole parts true bytes rest e over =
+ended_whole parts true bytes rest e over =
     let (b, r) = over refl in
     finished parts (reads true (read_all parts) bytes) ((joined parts ++ bytes) ++ rest) (rw b refl) (rw (b, r) (sym (append-nil (joined parts ++ []) ∙ append-nil (joined parts))))
-ended-whole parts false bytes rest e over =
+ended_whole parts false bytes rest e over =
     let r = read_all (parts ▹ bytes) in
     let s : reads false r rest ≡ r = stays false r rest e in
     finished (parts ▹ bytes ▹ rest) r ((joined parts ++ bytes) ++ rest) (rw s (stays true r [] e)) refl
 
-if-known : {P : Bytes → Type 0} (o : Option Bytes) → ((xs : Bytes) → o ≡ Some xs → P xs) → IfSome o P
-if-known None h = tt
-if-known (Some xs) h = h xs refl
+if_known : {P : Bytes → Type 0} (o : Option Bytes) → ((xs : Bytes) → o ≡ Some xs → P xs) → IfSome o P
+if_known None h = tt
+if_known (Some xs) h = h xs refl
 
 module _ {book₀ part₀ book part : Bytes} {held₀ read₀ : ℕ} (from₀ from₁ from to₀ to₁ to : Option Bytes) (s : Started book₀ part₀ held₀ read₀ from₀ from₁ to₀ to₁)
     (t : Turns N.Ended book₀ part₀ held₀ read₀ book part from₁ from to₁ to) where
-  whole-journal : (xs : Bytes) → from₀ ≡ Some xs → Appends to₀ to (sheet (journal_entries xs)) × (book ≡ run (journal_entries xs))
-  whole-journal xs e =
-      let c = consumes-on from₀ from₁ from (joined s.parts) t.bytes s.came t.came in
+  whole_journal : (xs : Bytes) → from₀ ≡ Some xs → Appends to₀ to (sheet (journal_entries xs)) × (book ≡ run (journal_entries xs))
+  whole_journal xs e =
+      let c = consumes_on from₀ from₁ from (joined s.parts) t.bytes s.came t.came in
       go from (rw e at c) t.over
     where
       go : (from : Option Bytes) → Consumes (Some xs) from (joined s.parts ++ t.bytes) → (t.last ≡ true → (t.bytes ≡ []) × IsAtEnd from)
@@ -218,12 +218,12 @@ module _ {book₀ part₀ book part : Bytes} {held₀ read₀ : ℕ} (from₀ fr
       go None c o = absurd c
       go (Some rest) c o =
           let d = t.done s.parts s.reading in
-          let w = ended-whole s.parts t.last t.bytes rest d.ends o in
+          let w = ended_whole s.parts t.last t.bytes rest d.ends o in
           let w = rw (← c) at w in
           (rw w.0 at (d.tells to₀ s.told), d.booked ∙ w.1)
 
-  pub all-written : IfSome from₀ (λ journal. Appends to₀ to (sheet (journal_entries journal)))
-  all-written = if-known from₀ (λ xs e. (whole-journal xs e).0)
+  pub all_written : IfSome from₀ (λ journal. Appends to₀ to (sheet (journal_entries journal)))
+  all_written = if_known from₀ (λ xs e. (whole_journal xs e).0)
 
-  pub all-booked : IfSome from₀ (λ journal. book ≡ run (journal_entries journal))
-  all-booked = if-known from₀ (λ xs e. (whole-journal xs e).1)
+  pub all_booked : IfSome from₀ (λ journal. book ≡ run (journal_entries journal))
+  all_booked = if_known from₀ (λ xs e. (whole_journal xs e).1)

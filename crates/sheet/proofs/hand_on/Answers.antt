@@ -1,5 +1,5 @@
 use lib.Dec.{eqb}
-use Rattle.sheet.proofs.Reading.{reads_on, reads-last, goes-with, ends-with}
+use Rattle.sheet.proofs.Reading.{reads_on, reads-last, goes_with, ends_with}
 use Rattle.sheet.proofs.hand_on.Goals as goal
 
 pub returns-then-n-left-clause-goes_on : goal.returns-then-n-left-clause-goes_on
@@ -8,7 +8,7 @@ returns-then-n-left-clause-goes_on g c = λ parts was.
 
 pub returns-then-n-left-clause-hands_on : goal.returns-then-n-left-clause-hands_on
 returns-then-n-left-clause-hands_on g c = λ parts was.
-    ends-with parts c.args.book.now c.args.part.now c.args.held c.args.read c.args.n was (eqb c.args.n 0) c.give-left.ensures.holds c.if-n-left.true (c.write.ensures c.if-not-write.false)
+    ends_with parts c.args.book.now c.args.part.now c.args.held c.args.read c.args.n was (eqb c.args.n 0) c.give-left.ensures.holds c.if-n-left.true (c.write.ensures c.if-not-write.false)
 
 pub returns-clause-goes_on : goal.returns-clause-goes_on
 returns-clause-goes_on g c = λ parts was.
@@ -16,4 +16,4 @@ returns-clause-goes_on g c = λ parts was.
 
 pub returns-clause-hands_on : goal.returns-clause-hands_on
 returns-clause-hands_on g c = λ parts was.
-    goes-with parts c.args.book.now c.args.part.now c.args.held c.args.read c.args.n was c.requires.n_in_bounds c.give-left.ensures.holds c.if-n-left.false c.give-left.ensures.written_in_bounds.1 c.plus-after.ensures (c.write.ensures c.if-not-write.false)
+    goes_with parts c.args.book.now c.args.part.now c.args.held c.args.read c.args.n was c.requires.n_in_bounds c.give-left.ensures.holds c.if-n-left.false c.give-left.ensures.written_in_bounds.1 c.plus-after.ensures (c.write.ensures c.if-not-write.false)
