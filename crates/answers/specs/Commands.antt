@@ -1,9 +1,11 @@
 -- A command of a series given by itself: 35, 34 and 11 come before the command's own answer.
-use Rattle.std.specs.Prelude.{ℕ, ◌≡◌, eqb, if◌then◌else◌}
+use Rattle.std.specs.Prelude.{ℕ, ◌≡◌}
 use Rattle.rules.specs.Bytes.{Bytes}
-use Rattle.rules.specs.Answers.{Answer, Opened, Used, Wait, Settle, Done, Refused}
+use Rattle.rules.specs.Answers.{Result, ok, refused, Answer, Opened, Used, Wait, Settle, Done, Refused}
 use Rattle.rules.specs.Series.{Command}
 use Rattle.rules.specs.Book.{look, stored_answer, written}
+use Rattle.book.specs.Refusals.{in_book}
+use Rattle.record_test.specs.declared.status.Status.{Status}
 use Rattle.record_test.specs.declared.status.Status.TheVariants as S
 use Rattle.record_test.specs.Statuses.{status_in, stored_at}
 
@@ -15,11 +17,14 @@ after_at book s c = written s book (stored_at book s) c
 
 -- the record of series s has an open one's form, and is still to be tested
 abbrev pub Untested : Bytes → ℕ → Type 0
-Untested book s = status_in (look book s) ≡ S.Untested
+Untested book s = status_in (look book s) ≡ ok S.Untested
 
--- the core's number as the book says it: terms out of range make a record that is not acceptable
-abbrev pub in_book : ℕ → ℕ
-in_book n = if eqb n 12 then 11 else n
+-- what a series is found to be, by a command that needs an open one: 37 on an empty one, 38 on a fixed one
+abbrev pub use_of : Result Status → Result Unit
+use_of (ok S.Empty) = refused 37
+use_of (ok S.Untested) = ok tt
+use_of (ok S.Fixed) = refused 38
+use_of (refused r) = refused r
 
 abbrev pub book_answer : Answer → Answer
 book_answer Opened = Opened

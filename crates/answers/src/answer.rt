@@ -1,16 +1,21 @@
 // What a command answers.
 ghost use Rattle.std.specs.Prelude.{◌≡◌};
+ghost use Rattle.rules.specs.Book.{look};
 ghost use Rattle.core_decide.specs.Decisions.{decision_of};
-ghost use Rattle.core_decide.specs.Decisions as D;
-ghost use Rattle.core_terms.specs.Errors.{number_of};
-ghost use Rattle.answers.specs.Answers.{answer_of};
-ghost use Rattle.answers.specs.Commands.{in_book, book_answer};
+ghost use Rattle.book.specs.Refusals.{found_of};
+ghost use Rattle.record_test.specs.Statuses.{status_in};
+ghost use Rattle.answers.specs.Answers.{answer_of, IsAnswer};
+ghost use Rattle.answers.specs.Commands.{book_answer, use_of};
 
-use core_decide::decide::{Decision, DecisionResult, SettleMethod};
+use book::refusal::Refusal;
+use core_decide::decide::{Decision, SettleMethod};
 use core_take::take::PrintUse;
 use core_terms::error::CoreError;
 use core_terms::units::StrikeUsd;
+use record_test::status::{Status, status_at};
 
+// The list of 01 as it stands, refusals among it. An answer within a result would say the same and is
+// slower to hand on.
 #[derive(Clone, Copy)]
 pub enum Answer {
     Opened,
@@ -25,47 +30,49 @@ pub enum Answer {
     },
     Void,
     Done,
-    Refused(u8),
+    Refused(Refusal),
 }
 
-// The book's number for a refusal of the core: terms out of range make a record that is not
-// acceptable.
-pub fn refusal(e: CoreError) -> u8
-    ensures { result ≡ in_book (number_of e) }
-{
-    let n = e.number();
-    if n == 12 {
-        return 11;
-    }
-    n
-}
+impl From<Decision> for Answer {
+    ghost from_gives = { IsAnswer };
 
-impl Answer {
-    pub fn of_decision(d: Decision) -> Answer
-        ensures { answer_of result ≡ D.answer_of d }
-    {
+    fn from(d: Decision) -> Answer {
         match d {
             Decision::Settle {
                 method,
                 price,
                 samples,
             } => Answer::Settle {
-                method: method,
-                price: price,
-                samples: samples,
+                method,
+                price,
+                samples,
             },
             Decision::Void => Answer::Void,
-            Decision::Wait { until } => Answer::Wait { until: until },
+            Decision::Wait { until } => Answer::Wait { until },
         }
     }
+}
 
+impl Answer {
     // A core call's result on a record's terms and state.
-    pub fn of_result(r: DecisionResult) -> Answer
+    pub fn of_result(r: Result<Decision, CoreError>) -> Answer
         ensures { answer_of result ≡ book_answer (decision_of r) }
     {
         match r {
-            DecisionResult::Ok(d) => Answer::of_decision(d),
-            DecisionResult::Err(e) => Answer::Refused(refusal(e)),
+            Ok(d) => Answer::from(d),
+            Err(e) => Answer::Refused(Refusal::from(e)),
         }
+    }
+}
+
+// Whether a series is in use and still open, its terms and state yet to be tested: 35, 34, 11, then
+// 37, 38. What an offer, a fix and a withdraw ask first.
+pub fn in_use(book: &[u8], series: u8) -> Result<(), Refusal>
+    ensures { found_of result ≡ use_of (status_in (look book.now series)) }
+{
+    match status_at(book, series)? {
+        Status::Empty => Err(Refusal::SeriesEmpty),
+        Status::Untested => Ok(()),
+        Status::Fixed => Err(Refusal::SeriesFixed),
     }
 }

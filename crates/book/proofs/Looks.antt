@@ -1,5 +1,5 @@
 -- A look, and the part of the book that it gives.
-use Rattle.std.specs.Prelude.{if◌then◌else◌}
+use Rattle.std.specs.Prelude.{if◌then◌else◌, Err}
 use Prim.Native.Nat.{ℕ, ◌+◌, ◌*◌, ◌-◌, ◌<◌}
 use mathlib.Core.Path.{◌≡◌, refl, sym, ap, ◌∙◌}
 use mathlib.Core.Bool.{Bool, true, false, not}
@@ -11,20 +11,18 @@ use lib.Dec.{ltb, eqb}
 use borrow.Author.Tests.{ltb-true, eqb-true}
 use borrow.Rule.Slice.PartMut.{put_mid, Post-is}
 use Rattle.rules.specs.Bytes.{Bytes}
-use Rattle.rules.specs.Answers.{Result, ok, refused}
+use Rattle.rules.specs.Answers.{ok, refused}
+use Rattle.rules.specs.Answers as R
 use Rattle.rules.specs.Record.{record_size, book_size, series_count}
 use Rattle.rules.specs.Book.{record_at, replaced, look}
 use Rattle.core_parts.specs.States.{value_or}
-use Rattle.book.specs.declared.look.LookResult.TheVariants as L
-use Rattle.book.specs.Looks.{look_result_of, Allowed}
+use Rattle.book.specs.Refusals.{refusal_number}
+use Rattle.book.specs.Looks.{allowed_as, Allowed}
+use Rattle.book.specs.declared.refusal.Refusal.{Refusal}
 
 -- a number is the look's refusal
-pub refused-look : (x : Result Bytes) (n : ℕ) → L.Refused n ≡ look_result_of x → x ≡ refused n
-refused-look (ok bytes) n e = cc
-refused-look (refused r) n e = ap refused (sym (number_is n r e))
-  where
-    number_is : (n r : ℕ) → L.Refused n ≡ L.Refused r → n ≡ r
-    number_is n r e = cc
+pub refused-look : (bytes : Bytes) (x : R.Result Bytes) (r : Refusal) → allowed_as bytes (Err r) ≡ x → x ≡ R.refused (refusal_number r)
+refused-look bytes x r e = sym e
 
 -- the part of series s, as the borrow checker says it
 abbrev pub part_at : ℕ → Bytes → Bytes
@@ -39,12 +37,12 @@ unfolding replaced
 put_is s r book =
     ap (λ (x : Bytes). take (s * record_size) book ++ (r ++ x)) (Post-is (s * record_size) (s * record_size + record_size) book (omega arith))
 
-module _ (book : Bytes) (s : ℕ) (e : L.Ok ≡ look_result_of (look book s)) where
+module _ (book : Bytes) (s : ℕ) (e : R.ok (record_at s book) ≡ look book s) where
   tests_passed : (eqb (length book) book_size ≡ true) × (ltb s series_count ≡ true)
   unfolding look
   tests_passed = go (eqb (length book) book_size) (ltb s series_count) e
     where
-      go : (b d : Bool) → L.Ok ≡ look_result_of (if not b then refused 35 else (if not d then refused 34 else ok (record_at s book))) → (b ≡ true) × (d ≡ true)
+      go : (b d : Bool) → R.ok (record_at s book) ≡ (if not b then refused 35 else (if not d then refused 34 else ok (record_at s book))) → (b ≡ true) × (d ≡ true)
       go true true h = (refl, refl)
       go true false h = (refl, cc)
       go false d h = (cc, cc)
@@ -71,8 +69,8 @@ module _ (book : Bytes) (s : ℕ) (e : L.Ok ≡ look_result_of (look book s)) wh
 -- of a series that may be looked at
 module _ (book : Bytes) (s : ℕ) (h : Allowed book s) where
   pub allowed-book : (length book ≡ book_size) × (s < series_count)
-  allowed-book = in_book_lem book s (sym (ap look_result_of h))
+  allowed-book = in_book_lem book s (sym h)
 
   -- its part is a whole record
   pub allowed-part : length (part_at s book) ≡ record_size
-  allowed-part = ap (λ (x : Bytes). length x) (part_is s book) ∙ record-whole book s (sym (ap look_result_of h))
+  allowed-part = ap (λ (x : Bytes). length x) (part_is s book) ∙ record-whole book s (sym h)

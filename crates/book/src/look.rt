@@ -1,8 +1,10 @@
 // A look at a series: the record's own bytes, as a part of the book.
 ghost use Rattle.std.specs.Prelude.{◌≡◌, []};
-ghost use Rattle.rules.specs.Book.{look};
+ghost use Rattle.rules.specs.Book.{look, record_at};
 ghost use Rattle.core_parts.specs.States.{value_or};
-ghost use Rattle.book.specs.Looks.{look_result_of};
+ghost use Rattle.book.specs.Looks.{allowed_as};
+
+use crate::refusal::Refusal;
 
 // The bytes of a record.
 pub const RECORD_SIZE: usize = 456;
@@ -19,30 +21,24 @@ pub const SERIES_COUNT: u8 = 64;
 // The bytes of a book.
 pub const BOOK_SIZE: usize = 29_184;
 
-#[derive(Clone, Copy)]
-pub enum LookResult {
-    Ok,
-    Refused(u8),
-}
-
-// Whether the look is allowed, or the number of its refusal.
-pub fn look_result(book: &[u8], series: u8) -> LookResult
-    ensures { result ≡ look_result_of (look book.now series) }
+// Whether the look is allowed, or its refusal.
+pub fn look_result(book: &[u8], series: u8) -> Result<(), Refusal>
+    ensures { allowed_as (record_at series book.now) result ≡ look book.now series }
 {
     if book.len() != BOOK_SIZE {
-        return LookResult::Refused(35);
+        return Err(Refusal::WrongBook);
     }
     if series >= SERIES_COUNT {
-        return LookResult::Refused(34);
+        return Err(Refusal::NoSuchSeries);
     }
-    LookResult::Ok
+    Ok(())
 }
 
 // The record's bytes; the empty part where the look is refused.
 pub fn look(book: &[u8], series: u8) -> &[u8]
     ensures { result.now ≡ value_or [] (look book.now series) }
 {
-    let LookResult::Ok = look_result(book, series) else {
+    let Ok(()) = look_result(book, series) else {
         return &book[0..0];
     };
     let at = series as usize * RECORD_SIZE;

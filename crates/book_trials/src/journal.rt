@@ -1,108 +1,99 @@
-// One journal: a book, the commands given to it, and the book that they must leave.
-ghost use Rattle.std.specs.Prelude.{◌≤◌, length};
-
-use crate::input::{fill, next, records};
+// One journal: a book, the commands given to it, and the book that they must leave. What cannot be
+// is no journal.
+use crate::recorded;
 use crate::recorded::ANSWER;
-use crate::tally::{COMMAND, PLACES};
-use crate::{recorded, tally};
+use crate::tally::{Place, Tally};
+use book::look::{BOOK_SIZE, RECORD_SIZE};
 use commands::apply::apply;
-use fields::read::u8_at;
-use std::io::Read;
+use samples::replay::bytes;
+use std::io;
+use std::io::{ErrorKind, Read};
 
 // The most bytes of a book, commands of a journal and bytes of an entry that a sample has.
 const LONGEST: usize = 58_368;
 
-const MOST_COMMANDS: u64 = 64;
+const MOST_COMMANDS: u16 = 64;
 
 const LONGEST_ENTRY: usize = 60;
 
-// Compares the answer to the first n bytes of b, an entry, with the one behind them. Both are read
-// first: b is as long as they are.
-fn answered<R: Read>(
+// Puts a record at the place of its series. Only a book of the right length has places.
+fn record<R: Read>(reader: &mut R, book: &mut [u8]) -> io::Result<()> {
+    let [series] = bytes::<1, R>(reader)?;
+    if book.len() != BOOK_SIZE {
+        return Err(ErrorKind::InvalidData.into());
+    }
+    let Some(place) = book.chunks_exact_mut(RECORD_SIZE).nth(series as usize) else {
+        return Err(ErrorKind::InvalidData.into());
+    };
+    reader.read_exact(place)
+}
+
+// Puts the records that come next into the book.
+fn records<R: Read>(reader: &mut R, book: &mut [u8]) -> io::Result<()> {
+    let [n] = bytes::<1, R>(reader)?;
+    for _ in 0..n {
+        record(reader, book)?;
+    }
+    Ok(())
+}
+
+// Gives the command that comes next to the book, and compares the answer with the one behind it.
+// Both are read first.
+fn command<R: Read>(
     reader: &mut R,
     book: &mut [u8],
-    b: &mut [u8],
-    n: usize,
-    t: &mut [u64; PLACES],
-) -> bool
-    requires { n ≤ length b.old }
-{
-    if !fill(reader, b) {
-        return false;
+    place: Place,
+    t: &mut Tally,
+) -> io::Result<()> {
+    let [n] = bytes::<1, R>(reader)?;
+    if LONGEST_ENTRY < n as usize {
+        return Err(ErrorKind::InvalidData.into());
     }
-    let a = apply(book, &b[..n]);
-    let code = u8_at(b, n);
-    tally::answer(t, code, recorded::is_answer(&b[n..], a));
-    true
+    let mut b = [0u8; LONGEST_ENTRY];
+    let entry = &mut b[..n as usize];
+    reader.read_exact(entry)?;
+    let answer: [u8; ANSWER] = bytes(reader)?;
+    let a = apply(book, entry);
+    t.answer(place, answer[0], recorded::is_answer(&answer, a));
+    Ok(())
 }
 
-fn command<R: Read>(reader: &mut R, book: &mut [u8], t: &mut [u64; PLACES]) -> bool {
-    let length = next(reader, 1);
-    if (LONGEST_ENTRY as u64) < length {
-        return false;
-    }
-    let n = length as usize;
-    let mut b = [0u8; LONGEST_ENTRY + ANSWER];
-    answered(reader, book, &mut b[..n + ANSWER], n, t)
-}
-
-// Gives the commands that come next to the book, and says whether they are there.
-fn commands<R: Read>(reader: &mut R, book: &mut [u8], t: &mut [u64; PLACES]) -> bool {
-    let n = next(reader, 2);
+// Gives the commands that come next to the book.
+fn commands<R: Read>(
+    reader: &mut R,
+    book: &mut [u8],
+    journal: u32,
+    t: &mut Tally,
+) -> io::Result<()> {
+    let n = u16::from_le_bytes(bytes(reader)?);
     if MOST_COMMANDS < n {
-        return false;
+        return Err(ErrorKind::InvalidData.into());
     }
-    let mut i: u64 = 0;
-    while i < n {
-        i += 1;
-        t[COMMAND] = i;
-        if !command(reader, book, t) {
-            return false;
-        }
+    for i in 1..=n {
+        let place = Place {
+            journal,
+            command: i,
+        };
+        command(reader, book, place, t)?;
     }
-    true
+    Ok(())
 }
 
-// Compares the book that was left with the one that must be left.
-fn compare(book: &[u8], end: &[u8], t: &mut [u64; PLACES]) {
-    let mut i: usize = 0;
-    while i < book.len() {
-        if book[i] != u8_at(end, i) {
-            tally::different_book(t);
-            return;
-        }
-        i += 1;
+// Replays the journal that comes next.
+pub(crate) fn replay<R: Read>(reader: &mut R, journal: u32, t: &mut Tally) -> io::Result<()> {
+    let n = u32::from_le_bytes(bytes(reader)?) as usize;
+    if LONGEST < n {
+        return Err(ErrorKind::InvalidData.into());
     }
-}
-
-// The two books are zero before, and as long as each other.
-fn replay_on<R: Read>(
-    reader: &mut R,
-    book: &mut [u8],
-    end: &mut [u8],
-    t: &mut [u64; PLACES],
-) -> bool {
-    if !records(reader, book) {
-        return false;
-    }
-    if !commands(reader, book, t) {
-        return false;
-    }
-    if !records(reader, end) {
-        return false;
-    }
-    compare(book, end, t);
-    true
-}
-
-// Replays the journal that comes next, and says whether it is there.
-pub(crate) fn replay<R: Read>(reader: &mut R, t: &mut [u64; PLACES]) -> bool {
-    let length = next(reader, 4);
-    if (LONGEST as u64) < length {
-        return false;
-    }
-    let n = length as usize;
     let mut book = [0u8; LONGEST];
     let mut end = [0u8; LONGEST];
-    replay_on(reader, &mut book[..n], &mut end[..n], t)
+    let book = &mut book[..n];
+    let end = &mut end[..n];
+    records(reader, book)?;
+    commands(reader, book, journal, t)?;
+    records(reader, end)?;
+    if &*book != &*end {
+        t.different_book(journal);
+    }
+    Ok(())
 }

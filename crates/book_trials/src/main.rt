@@ -3,55 +3,58 @@
 // the books at the end differ from what was recorded.
 #![tactic(auto)]
 
-mod input;
+ghost use Rattle.std.specs.Prelude.{codes};
+
 mod journal;
 mod recorded;
 mod tally;
 
-use fields::read::{u32_at, u64_at};
+use samples::fault::Fault;
+use samples::replay::Trial;
 use std::io;
 use std::io::{Read, Write};
-use tally::{JOURNAL, PLACES};
+use tally::Tally;
 
-// The number of journals, which stands after the eight bytes that every sample starts with; 0 where
-// they do not stand there.
-fn header<R: Read>(reader: &mut R) -> u64 {
-    let mut b = [0u8; 12];
-    if !input::fill(reader, &mut b) {
-        return 0;
-    }
-    // LFBOOK01
-    if u64_at(&b, 0) != 0x3130_4b4f_4f42_464c {
-        return 0;
-    }
-    u32_at(&b, 8) as u64
+#[derive(Drop)]
+struct Journals {
+    // The number of the journal at hand, from 1.
+    number: u32,
+    tally: Tally,
 }
 
-// Replays n journals, and says whether there are so many and no bytes behind them.
-fn replay_all<R: Read>(reader: &mut R, n: u64, t: &mut [u64; PLACES]) -> bool {
-    let mut i: u64 = 0;
-    while i < n {
-        i += 1;
-        t[JOURNAL] = i;
-        if !journal::replay(reader, t) {
-            return false;
-        }
+impl Trial for Journals {
+    ghost MARK = { codes "LFBOOK01" };
+
+    const MARK: [u8; 8] = *b"LFBOOK01";
+
+    ghost number = { λ j. j.number };
+
+    fn next<R: Read>(&mut self, reader: &mut R, n: u32) -> io::Result<()> {
+        self.number = n;
+        journal::replay(reader, n, &mut self.tally)
     }
-    input::is_over(reader)
 }
 
+// What is said of a fault differs, and so does the rest: a shared main would need a method of the
+// trial for each line.
 fn main(rt: HostRuntime) -> io::Result<()> {
-    let mut reader = rt.reader();
+    let mut journals = Journals {
+        number: 0,
+        tally: Tally::new(),
+    };
+    let replayed = samples::replay::replay(&mut journals, &mut rt.reader());
+    let Journals { number, tally } = journals;
     let mut out = io::writer(&rt);
-    let n = header(&mut reader);
-    if n == 0 {
-        return out.write_all(b"not a sample\n");
+    if let Err(Fault::NotASample) = replayed {
+        return writeln!(out, "{}", Fault::NotASample);
     }
-    let mut t = [0u64; PLACES];
-    let is_whole = replay_all(&mut reader, n, &mut t);
-    tally::print_all(&mut out, &t)?;
-    if !is_whole {
-        tally::print_stop(&mut out, &t)?;
+    tally.print(&mut out, number)?;
+    if let Err(fault) = replayed {
+        let commands = tally.answers.answers;
+        writeln!(
+            out,
+            "{fault} in journal {number}, after {commands} commands"
+        )?;
     }
     Ok(())
 }

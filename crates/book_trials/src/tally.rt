@@ -1,131 +1,85 @@
-// How many answers and books were compared and how many differ, and what is printed of it. A tally
-// is one array, which is lent: the numbers at the places below, with the answers by their codes,
-// from 255 down to 0, at 4 to 259.
-ghost use Rattle.std.specs.Prelude.{◌<◌};
-
+// How many answers and books were compared and how many differ, and what is printed of it.
+use samples::compared::Compared;
 use std::io;
 use std::io::Write;
 
-pub(crate) const PLACES: usize = 263;
+// The kinds of answers that are no refusals, by their codes from 255 down.
+const KINDS: [&str; 6] = ["opened", "used", "wait", "settle", "void", "done"];
 
-// The number of the journal at hand, from 1.
-pub(crate) const JOURNAL: usize = 0;
-
-const COMMANDS: usize = 1;
-
-const DIFFERENT_ANSWERS: usize = 2;
-
-const DIFFERENT_BOOKS: usize = 3;
-
-// Where the first difference is: the journal, 0 for none, and the command, 0 for the book.
-const FIRST_JOURNAL: usize = 260;
-
-const FIRST_COMMAND: usize = 261;
-
-// The number of the command at hand in its journal.
-pub(crate) const COMMAND: usize = 262;
-
-// ---- counting
-
-fn count(t: &mut [u64; PLACES], at: usize)
-    requires { at < 263 }
-{
-    let n = t[at];
-    if n < u64::MAX {
-        t[at] = n + 1;
-    }
+// A journal and a command of it, by their numbers from 1. The command 0 stands for the book that
+// the journal leaves.
+#[derive(Clone, Copy)]
+pub(crate) struct Place {
+    pub(crate) journal: u32,
+    pub(crate) command: u16,
 }
 
-fn note(t: &mut [u64; PLACES], command: u64) {
-    if t[FIRST_JOURNAL] == 0 {
-        t[FIRST_JOURNAL] = t[JOURNAL];
-        t[FIRST_COMMAND] = command;
-    }
+#[derive(Drop)]
+pub(crate) struct Tally {
+    pub(crate) answers: Compared,
+    by_code: [u64; 256],
+    different_books: u64,
+    // Where the first difference is.
+    first: Option<Place>,
 }
 
-pub(crate) fn answer(t: &mut [u64; PLACES], code: u8, is_same: bool) {
-    count(t, 259 - code as usize);
-    count(t, COMMANDS);
-    if !is_same {
-        count(t, DIFFERENT_ANSWERS);
-        let command = t[COMMAND];
-        note(t, command);
-    }
-}
-
-pub(crate) fn different_book(t: &mut [u64; PLACES]) {
-    count(t, DIFFERENT_BOOKS);
-    note(t, 0);
-}
-
-// ---- printing
-
-// Writes a byte, or for # the number at this place, and answers the place whose number is next.
-fn put<W: Write>(out: &mut W, byte: u8, numbers: &[u64], at: usize) -> io::Result<usize> {
-    if byte != b'#' {
-        let one = [byte];
-        out.write_all(&one)?;
-        return Ok(at);
-    }
-    if numbers.len() <= at {
-        return Ok(at);
-    }
-    let n = numbers[at];
-    write!(out, "{n}")?;
-    Ok(at + 1)
-}
-
-// Writes a text, each # in it as one of the numbers from this place on.
-fn print<W: Write>(out: &mut W, text: &[u8], numbers: &[u64], first: usize) -> io::Result<()> {
-    let mut at = first;
-    let mut i: usize = 0;
-    while i < text.len() {
-        at = put(out, text[i], numbers, at)?;
-        i += 1;
-    }
-    Ok(())
-}
-
-// The refusals, by their numbers.
-fn print_refused<W: Write>(out: &mut W, t: &[u64; PLACES]) -> io::Result<()> {
-    let mut i: u64 = 0;
-    while i <= 249 {
-        let n = t[259 - i as usize];
-        if n != 0 {
-            let line = [i, n];
-            print(out, b"refused #: #\n", &line, 0)?;
+impl Tally {
+    pub(crate) fn new() -> Tally {
+        Tally {
+            answers: Compared::new(),
+            by_code: [0; 256],
+            different_books: 0,
+            first: None,
         }
-        i += 1;
     }
-    Ok(())
-}
 
-// What differs stands first: of what a run prints, a failing check shows the beginning.
-pub(crate) fn print_all<W: Write>(out: &mut W, t: &[u64; PLACES]) -> io::Result<()> {
-    if t[FIRST_JOURNAL] != 0 {
-        print(
-            out,
-            b"the first difference is in journal # command #\n",
-            t,
-            FIRST_JOURNAL,
-        )?;
+    // Counts one more answer, by the code that was recorded.
+    pub(crate) fn answer(&mut self, place: Place, code: u8, is_same: bool) {
+        let n = self.by_code[code as usize];
+        self.by_code[code as usize] = n.saturating_add(1);
+        if !self.answers.count(is_same) {
+            self.first = self.first.or(Some(place));
+        }
     }
-    print(
-        out,
-        b"journals #\ncommands #\ndifferent answers #\ndifferent books #\n\
-          opened #\nused #\nwait #\nsettle #\nvoid #\ndone #\n",
-        t,
-        0,
-    )?;
-    print_refused(out, t)
-}
 
-// Where the sample could not be read on.
-pub(crate) fn print_stop<W: Write>(out: &mut W, t: &[u64; PLACES]) -> io::Result<()> {
-    print(
-        out,
-        b"the sample is short, damaged or too long in journal #, after # commands\n",
-        t,
-        JOURNAL,
-    )
+    pub(crate) fn different_book(&mut self, journal: u32) {
+        self.different_books = self.different_books.saturating_add(1);
+        self.first = self.first.or(Some(Place {
+            journal,
+            command: 0,
+        }));
+    }
+
+    // What differs stands first: of what a run prints, a failing check shows the beginning.
+    pub(crate) fn print<W: Write>(&self, out: &mut W, journals: u32) -> io::Result<()> {
+        if let Some(Place { journal, command }) = self.first {
+            writeln!(
+                out,
+                "the first difference is in journal {journal} command {command}"
+            )?;
+        }
+        writeln!(out, "journals {journals}")?;
+        writeln!(out, "commands {}", self.answers.answers)?;
+        writeln!(out, "different answers {}", self.answers.different)?;
+        writeln!(out, "different books {}", self.different_books)?;
+        self.print_kinds(out)?;
+        self.print_refused(out)
+    }
+
+    fn print_kinds<W: Write>(&self, out: &mut W) -> io::Result<()> {
+        for (kind, n) in KINDS.iter().zip(self.by_code[250..].iter().rev()) {
+            writeln!(out, "{kind} {n}")?;
+        }
+        Ok(())
+    }
+
+    // The refusals, by their numbers.
+    fn print_refused<W: Write>(&self, out: &mut W) -> io::Result<()> {
+        for (number, n) in self.by_code[..250].iter().enumerate() {
+            if *n != 0 {
+                writeln!(out, "refused {number}: {n}")?;
+            }
+        }
+        Ok(())
+    }
 }

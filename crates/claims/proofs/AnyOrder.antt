@@ -1,9 +1,8 @@
 -- What the prints of one feed leave in an empty place, in whatever order they came.
-use Rattle.std.specs.Prelude.{if◌then◌else◌}
+use Rattle.std.specs.Prelude.{if◌then◌else◌, Option, None, Some}
 use Prim.Native.Nat.{ℕ, ◌≤◌}
 use mathlib.Core.Path.{◌≡◌, refl, sym, ap, ◌∙◌}
 use mathlib.Core.Bool.{Bool, true, false}
-use mathlib.Core.Option.{Option, none, some}
 use mathlib.Core.List.{[], ◌∷◌}
 use lib.ListN.{length}
 use lib.Dec.{eqb}
@@ -53,8 +52,8 @@ module _ (book : Bytes) (s : ℕ) (whole : length book ≡ book_size) (empty : r
       go (command t c) q i a = at (eqb s t) refl
         where
           left : (x : Option Series) → maybe (record_at s now) bytes_of x ≡ bytes_of (maybe (ledgers l s) (λ next. next) x)
-          left none = i
-          left (some next) = refl
+          left None = i
+          left (Some next) = refl
 
           at : (b : Bool) → eqb s t ≡ b → record_at s (book_after now e) ≡ bytes_of (if b then after (ledgers l s) c else ledgers l s)
           at false n = others_keep now e s (rw (q, n)) ∙ i
@@ -127,7 +126,7 @@ module _ (u w : Upload) (feed : Log Quote) (o : Opening) (same : SamePrints u w 
   prices_agree = one-price feed same.is_one_feed o (commands_of u) (commands_of w) same.one same.other same.same_offers (in_range_lem u) (in_range_lem w)
 
 same-offers : (u w : Upload) (feed : Log Quote) (o : Opening) → is_feed feed ≡ true
-    → opening (commands_of u) ≡ some o → opening (commands_of w) ≡ some o → not_fixed_or_freed (commands_of u) ≡ true → not_fixed_or_freed (commands_of w) ≡ true
+    → opening (commands_of u) ≡ Some o → opening (commands_of w) ≡ Some o → not_fixed_or_freed (commands_of u) ≡ true → not_fixed_or_freed (commands_of w) ≡ true
     → ((q : Quote) → Among q (offers (commands_of u)) → Among q feed)
     → ((q : Quote) → Among q (offers (commands_of u)) → Among q (offers (commands_of w))) → ((q : Quote) → Among q (offers (commands_of w)) → Among q (offers (commands_of u)))
     → SamePrints u w feed o

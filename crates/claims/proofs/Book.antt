@@ -1,9 +1,8 @@
 -- The book's bytes after any list, and the answers.
-use Rattle.std.specs.Prelude.{if◌then◌else◌}
+use Rattle.std.specs.Prelude.{if◌then◌else◌, Option, None, Some}
 use Prim.Native.Nat.{ℕ, zero, suc, ◌+◌, ◌*◌, ◌<◌}
 use mathlib.Core.Path.{◌≡◌, refl, sym, ap, ap₂, ◌∙◌, fun_ext}
 use mathlib.Core.Bool.{Bool, true, false}
-use mathlib.Core.Option.{Option, none, some}
 use mathlib.Core.List.{◌++◌, append_assoc, append-nil}
 use native.Mathlib.Omega.{arith}
 use native.Mathlib.Nat.{suc-mul}
@@ -151,8 +150,8 @@ module _ (l : Log Bytes) (h : all are_bytes l ≡ true) where
         where
           at : (x : Option Series) → changed (step (ledgers l s) c) ≡ x → s < series_count
               → maybe (book_of (ledgers l)) (λ next. replaced s (bytes_of next) (book_of (ledgers l))) x ≡ book_of (series_after (ledgers l) (command s c))
-          at none e m = keep_more s c (rw e)
-          at (some next) e m = put_more s c next m (rw e)
+          at None e m = keep_more s c (rw e)
+          at (Some next) e m = put_more s c next m (rw e)
 
 -- ---- from the zeroed book
 

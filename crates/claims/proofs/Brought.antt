@@ -1,9 +1,8 @@
 -- What holds of the books that members bring in.
-use Rattle.std.specs.Prelude.{if◌then◌else◌}
+use Rattle.std.specs.Prelude.{if◌then◌else◌, Option, None, Some}
 use Prim.Native.Nat.{ℕ, ◌*◌, ◌<◌, ◌≤◌}
 use mathlib.Core.Path.{◌≡◌, refl, sym, ap, ◌∙◌}
 use mathlib.Core.Bool.{Bool, true, false, ◌&&◌}
-use mathlib.Core.Option.{Option, none, some}
 use mathlib.Core.List.{List, ◌∷◌, ◌++◌}
 use native.Mathlib.Omega.{arith}
 use lib.ListN.{length, drop}
@@ -95,8 +94,8 @@ module _ (book : Bytes) (len : length book ≡ book_size) (e : Bytes) (s : ℕ) 
         ap stored (record-after book e s c held len h there) ∙ go fc (changed (step held c)) refl
       where
         go : command_fits c ≡ true → (x : Option Series) → changed (step held c) ≡ x → stored (maybe (record_at s book) bytes_of x) ≡ ok (maybe held (λ next. next) x)
-        go fc none k = there
-        go fc (some next) k =
+        go fc None k = there
+        go fc (Some next) k =
             let (a, same) = stored_is (record_at s book) held there in
             let fits = rw same at (read_fits (record_at s book) bytes a) in
             let sound = rw same at (read_sound (record_at s book) a) in

@@ -1,8 +1,7 @@
 -- Demand 3 holds.
-use Rattle.std.specs.Prelude.{if◌then◌else◌}
+use Rattle.std.specs.Prelude.{if◌then◌else◌, Option, None, Some}
 use mathlib.Core.Path.{◌≡◌, refl}
 use mathlib.Core.Bool.{Bool, true, false}
-use mathlib.Core.Option.{Option, none, some}
 use Rattle.rules.proofs.Bools.{both}
 use Rattle.rules.proofs.Series.{ledger-empty}
 use Rattle.rules.proofs.Prices.{FairAnswer, opened, used, wait, fair, void, done, refusal, answers_fair}
@@ -39,7 +38,7 @@ empty_fair j (Ask now) = tt
 empty_fair j (Fix now) = tt
 empty_fair j (Withdraw now i) = tt
 
-opened_fair : (j : Log Command) (o : Opening) → opening j ≡ some o → {a : Answer} → FairAnswer o (taken_events j) a → Claim.FairAnswer j a
+opened_fair : (j : Log Command) (o : Opening) → opening j ≡ Some o → {a : Answer} → FairAnswer o (taken_events j) a → Claim.FairAnswer j a
 opened_fair j o e opened = tt
 opened_fair j o e used = tt
 opened_fair j o e wait = tt
@@ -52,8 +51,8 @@ command_fair : (j : Log Command) (c : Command) → Claim.FairAnswer j (answer (l
 command_fair j c = go (opening j) refl
   where
     go : (x : Option Opening) → opening j ≡ x → Claim.FairAnswer j (answer (ledger j) c)
-    go none e = rw (ledger-empty j e) (empty_fair j c)
-    go (some o) e = opened_fair j o e (answers_fair j c o e)
+    go None e = rw (ledger-empty j e) (empty_fair j c)
+    go (Some o) e = opened_fair j o e (answers_fair j c o e)
 
 entry_fair : (l : Log Bytes) (e : Bytes) → all are_bytes l ≡ true → are_bytes e ≡ true → FairEntry l (entry e) (answered l e)
 unfolding ledgers

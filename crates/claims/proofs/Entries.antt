@@ -1,9 +1,8 @@
 -- An entry of bytes is a command that fits its fields, for one of the 64 series; and the ledgers after one more entry.
-use Rattle.std.specs.Prelude.{if◌then◌else◌}
+use Rattle.std.specs.Prelude.{if◌then◌else◌, None, Some}
 use Prim.Native.Nat.{ℕ}
 use mathlib.Core.Path.{◌≡◌, refl, fun_ext}
 use mathlib.Core.Bool.{Bool, true, false, ◌&&◌}
-use mathlib.Core.Option.{none, some}
 use mathlib.Core.List.{[], ◌∷◌}
 use lib.ListN.{length}
 use lib.Dec.{ltb, eqb}
@@ -97,7 +96,7 @@ command_to_fits : (s : ℕ) (n : Entry) → entry_fits n ≡ true → maybe true
 command_to_fits s (no_command r) h = refl
 command_to_fits s (command i c) h = go (eqb s i)
   where
-    go : (b : Bool) → maybe true command_fits (if b then some c else none) ≡ true
+    go : (b : Bool) → maybe true command_fits (if b then Some c else None) ≡ true
     go true = (both (ltb i series_count) (command_fits c) h).1
     go false = refl
 
@@ -130,7 +129,7 @@ ledgers_more l e h k = fun_ext (λ s. go s (entry e) (entry-fits e k))
     go s (no_command r) f = refl
     go s (command i c) f = at (eqb s i)
       where
-        at : (b : Bool) → (if b then after (ledger (commands_to s l)) c else ledger (commands_to s l)) ≡ ledger (put (commands_to s l) (if b then some c else none))
+        at : (b : Bool) → (if b then after (ledger (commands_to s l)) c else ledger (commands_to s l)) ≡ ledger (put (commands_to s l) (if b then Some c else None))
         at true =
             after-ledger (commands_to s l) (all_mono command_fits in_range fits_in_range (commands_to s l) (commands_fit s l h)) c
             (fits_in_range c (both (ltb i series_count) (command_fits c) f).1)

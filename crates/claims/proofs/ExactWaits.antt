@@ -1,9 +1,8 @@
 -- A Wait on a record or a book of any origin is exact, and any other answer stays.
-use Rattle.std.specs.Prelude.{if◌then◌else◌}
+use Rattle.std.specs.Prelude.{if◌then◌else◌, Option, None, Some}
 use Prim.Native.Nat.{ℕ, ◌<◌}
 use mathlib.Core.Path.{◌≡◌, refl, sym, ap, ap₂, ◌∙◌}
 use mathlib.Core.Bool.{Bool, true, false, ◌||◌}
-use mathlib.Core.Option.{Option, none, some}
 use lib.ListN.{length}
 use lib.IntN.{ℤ}
 use lib.Dec.{eqb}
@@ -76,8 +75,8 @@ module _ (s : ℕ) (small : s < series_count) where
   record_kept book e h = go (command_to s (entry e)) refl h
     where
       go : (x : Option Command) → command_to s (entry e) ≡ x → may_stand x (answer_to book e) ≡ true → record_at s (book_after book e) ≡ record_at s book
-      go none q h = others_keep book e s q
-      go (some c) q h = ap (record_at s) (at (is_ask c) refl h)
+      go None q h = others_keep book e s q
+      go (Some c) q h = ap (record_at s) (at (is_ask c) refl h)
         where
           at : (b : Bool) → is_ask c ≡ b → b || is_refused (answer_to book e) ≡ true → book_after book e ≡ book
           at true a h = ask_keeps book e s c q a

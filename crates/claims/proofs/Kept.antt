@@ -1,9 +1,8 @@
 -- A refusal and an ask change no byte. An entry changes no byte of another series' record, and not the length of the book.
-use Rattle.std.specs.Prelude.{if◌then◌else◌}
+use Rattle.std.specs.Prelude.{if◌then◌else◌, Option, None, Some}
 use Prim.Native.Nat.{ℕ, ◌+◌, ◌*◌, ◌-◌, ◌<◌, ◌≤◌}
 use mathlib.Core.Path.{◌≡◌, refl, sym, ap, ◌∙◌}
 use mathlib.Core.Bool.{Bool, true, false}
-use mathlib.Core.Option.{Option, none, some}
 use mathlib.Core.List.{◌++◌, append_assoc}
 use native.Mathlib.Omega.{arith}
 use lib.ListN.{length, take, drop, length-append, length-take, length-drop, take-append-drop}
@@ -30,7 +29,7 @@ use Rattle.claims.proofs.Waits.{refused_kept, ask_kept}
 
 -- an entry whose command leaves its series as it was leaves the book as it was
 kept_by : (book e : Bytes)
-    → ((i : ℕ) (c : Command) (held : Series) → eqb (length book) book_size ≡ true → entry e ≡ command i c → stored (record_at i book) ≡ ok held → changed (step held c) ≡ none)
+    → ((i : ℕ) (c : Command) (held : Series) → eqb (length book) book_size ≡ true → entry e ≡ command i c → stored (record_at i book) ≡ ok held → changed (step held c) ≡ None)
     → book_after book e ≡ book
 unfolding book_after
 kept_by book e h = go (eqb (length book) book_size) (entry e) refl refl
@@ -48,10 +47,10 @@ pub refusal_keeps : RefusalKeeps
 unfolding answer_to
 refusal_keeps book e r h = kept_by book e (λ i c held len q there. refused_kept held c (ap is_refused (rw (len, q, there) at h)))
 
-pub ask_keeps : (book e : Bytes) (s : ℕ) (c : Command) → command_to s (entry e) ≡ some c → is_ask c ≡ true → book_after book e ≡ book
+pub ask_keeps : (book e : Bytes) (s : ℕ) (c : Command) → command_to s (entry e) ≡ Some c → is_ask c ≡ true → book_after book e ≡ book
 ask_keeps book e s c h a = kept_by book e (λ i k held len q there. ask_kept held k (ap is_ask (same k (eqb s i) (rw q at h)) ∙ a))
   where
-    same : (k : Command) (b : Bool) → (if b then some k else none) ≡ some c → k ≡ c
+    same : (k : Command) (b : Bool) → (if b then Some k else None) ≡ Some c → k ≡ c
     same k true e = cc
     same k false e = cc
 
@@ -127,8 +126,8 @@ after_by P book e same put = go (eqb (length book) book_size) (entry e) refl ref
     held i c q l len (ok series) = at (changed (step series c))
       where
         at : (x : Option Series) → P (maybe book (λ next. replaced i (bytes_of next) book) x)
-        at none = same
-        at (some next) = put i (bytes_of next) (rw (q, eq-eqb i i refl)) (length-record next) (omega arith)
+        at None = same
+        at (Some next) = put i (bytes_of next) (rw (q, eq-eqb i i refl)) (length-record next) (omega arith)
 
     go : (b : Bool) (n : Entry) → eqb (length book) book_size ≡ b → entry e ≡ n → holds_of (λ c. true) n ≡ true → P (if b then after_in book n else book)
     go false n len q k = same
@@ -152,5 +151,5 @@ record-after book e s c held len q there =
     rw (len, q, there) (go (changed (step held c)) (ltb-true s series_count (both (ltb s series_count) true (rw q at (entry-series e))).0))
   where
     go : (x : Option Series) → s < series_count → record_at s (maybe book (λ next. replaced s (bytes_of next) book) x) ≡ maybe (record_at s book) bytes_of x
-    go none l = refl
-    go (some next) l = put_back s (bytes_of next) book (length-record next) (omega arith)
+    go None l = refl
+    go (Some next) l = put_back s (bytes_of next) book (length-record next) (omega arith)

@@ -1,9 +1,8 @@
 -- An open series asked after a list, with other entries between the asks.
-use Rattle.std.specs.Prelude.{if◌then◌else◌}
+use Rattle.std.specs.Prelude.{if◌then◌else◌, Option, None, Some}
 use Prim.Native.Nat.{ℕ, suc, ◌<◌, ◌^◌}
 use mathlib.Core.Path.{◌≡◌, refl, sym, ap, ◌∙◌}
 use mathlib.Core.Bool.{Bool, true, false, not, ◌&&◌, ◌||◌}
-use mathlib.Core.Option.{Option, none, some}
 use native.Mathlib.Omega.{arith}
 use lib.IntN.{ℤ}
 use lib.Dec.{leb, eqb}
@@ -49,7 +48,7 @@ ask_entry s t h f = rw (ask_series s t, lt-ltb s series_count h) (ap (λ (x : �
 -- ---- a refused command, and an ask, leave the series as it was
 
 used_kept : (a : Answer) (next : Series) → is_refused (answer_of (if is_used a then leaves a next else keeps a)) ≡ true
-    → changed (if is_used a then leaves a next else keeps a) ≡ none
+    → changed (if is_used a then leaves a next else keeps a) ≡ None
 used_kept (Used s l f) next h = cc
 used_kept Opened next h = refl
 used_kept (Wait t) next h = refl
@@ -58,7 +57,7 @@ used_kept Answer.Void next h = refl
 used_kept Done next h = refl
 used_kept (Refused r) next h = refl
 
-fixing_kept : (o : Opening) (c : Holdings) (now : ℤ) (a : Answer) → is_refused (answer_of (fixing o c now a)) ≡ true → changed (fixing o c now a) ≡ none
+fixing_kept : (o : Opening) (c : Holdings) (now : ℤ) (a : Answer) → is_refused (answer_of (fixing o c now a)) ≡ true → changed (fixing o c now a) ≡ None
 fixing_kept o c now (Settle m p n) h = cc
 fixing_kept o c now Answer.Void h = cc
 fixing_kept o c now Opened h = refl
@@ -67,27 +66,27 @@ fixing_kept o c now (Wait t) h = refl
 fixing_kept o c now Done h = refl
 fixing_kept o c now (Refused r) h = refl
 
-offered_kept : (o : Opening) (c : Holdings) (now : ℤ) (r : Result Print) → is_refused (answer_of (offered o c now r)) ≡ true → changed (offered o c now r) ≡ none
+offered_kept : (o : Opening) (c : Holdings) (now : ℤ) (r : Result Print) → is_refused (answer_of (offered o c now r)) ≡ true → changed (offered o c now r) ≡ None
 offered_kept o c now (refused r) h = refl
 offered_kept o c now (ok p) h = used_kept (print_answer o.terms o.expiry c.candidates p) (live o (offer_held o c now (ok p))) h
 
-withdrawing_kept : (o : Opening) (c : Holdings) (now : ℤ) (i : ℕ) → is_refused (answer_of (withdrawing o c now i)) ≡ true → changed (withdrawing o c now i) ≡ none
+withdrawing_kept : (o : Opening) (c : Holdings) (now : ℤ) (i : ℕ) → is_refused (answer_of (withdrawing o c now i)) ≡ true → changed (withdrawing o c now i) ≡ None
 withdrawing_kept o c now i h = go (leb (slots o.terms) i) (not (bit i c.candidates.bits)) h
   where
     step_of : Bool → Bool → Step
     step_of a b = if a then keeps (Refused 40) else if b then keeps (Refused 41) else leaves Done (live o (withdrawn c now i))
 
-    go : (a b : Bool) → is_refused (answer_of (step_of a b)) ≡ true → changed (step_of a b) ≡ none
+    go : (a b : Bool) → is_refused (answer_of (step_of a b)) ≡ true → changed (step_of a b) ≡ None
     go true b h = refl
     go false true h = refl
     go false false h = cc
 
 opened_kept : (b : Bool) (next : Series) → is_refused (answer_of (if b then leaves Opened next else keeps (Refused 12))) ≡ true
-    → changed (if b then leaves Opened next else keeps (Refused 12)) ≡ none
+    → changed (if b then leaves Opened next else keeps (Refused 12)) ≡ None
 opened_kept true next h = cc
 opened_kept false next h = refl
 
-pub refused_kept : (s : Series) (c : Command) → is_refused (answer s c) ≡ true → changed (step s c) ≡ none
+pub refused_kept : (s : Series) (c : Command) → is_refused (answer s c) ≡ true → changed (step s c) ≡ None
 unfolding step
 refused_kept empty (Open o) h = opened_kept (good_terms o.terms) (live o no_holdings) h
 refused_kept empty (Offer q now) h = refl
@@ -105,7 +104,7 @@ refused_kept (fixed r o c a at) (Ask now) h = refl
 refused_kept (fixed r o c a at) (Fix now) h = refl
 refused_kept (fixed r o c a at) (Withdraw now i) h = refl
 
-pub ask_kept : (s : Series) (c : Command) → is_ask c ≡ true → changed (step s c) ≡ none
+pub ask_kept : (s : Series) (c : Command) → is_ask c ≡ true → changed (step s c) ≡ None
 unfolding step
 ask_kept s (Open o) h = cc
 ask_kept s (Offer q now) h = cc
@@ -118,7 +117,7 @@ ask_kept s (Withdraw now i) h = cc
 -- ---- entries between the asks
 
 -- one that is no command of the series may always stand there
-others_stand : (a : Answer) → may_stand none a ≡ true
+others_stand : (a : Answer) → may_stand None a ≡ true
 others_stand a = refl
 
 module _ (s : ℕ) where
@@ -136,7 +135,7 @@ module _ (s : ℕ) where
           kept false true x y z = rw (refused_kept (ledgers l s) c y)
           kept false false x y z = cc
 
-          at : (b : Bool) → eqb s i ≡ b → may_stand (if b then some c else none) (answer (ledgers l i) c) ≡ true
+          at : (b : Bool) → eqb s i ≡ b → may_stand (if b then Some c else None) (answer (ledgers l i) c) ≡ true
               → (if b then after (ledgers l s) c else ledgers l s) ≡ ledgers l s
           at true e m = kept (is_ask c) (is_refused (answer (ledgers l s) c)) refl refl (rw (eqb-true s i e) m)
           at false e m = refl
@@ -187,9 +186,9 @@ module _ (s : ℕ) where
         j = commands_to s l
 
         go : (x : Option Opening) (z : Option Freeze) → opening j ≡ x → freeze j ≡ z → is_some x && not (is_some z) ≡ true → Settles s 3 l t
-        go none z e y p = let c : ◌≡◌ {A = ℕ} 0 1 = cc in let c : ⊥ = omega arith in absurd c
-        go (some o) (some z) e y p = let c : ◌≡◌ {A = ℕ} 0 1 = cc in let c : ⊥ = omega arith in absurd c
-        go (some o) none e y p =
+        go None z e y p = let c : ◌≡◌ {A = ℕ} 0 1 = cc in let c : ⊥ = omega arith in absurd c
+        go (Some o) (Some z) e y p = let c : ◌≡◌ {A = ℕ} 0 1 = cc in let c : ⊥ = omega arith in absurd c
+        go (Some o) None e y p =
             let c = holdings o (events j) in
             let expiry : fits o.expiry ≡ true = every_at (opening_fields o) 10 (opening-fits j o (commands_fit s l h) e) in
             settles l o c 3 t h (ledger-live j o e y) f (three_waits_lem o.terms o.expiry c.candidates (opening_good j o e) expiry t)

@@ -1,6 +1,5 @@
 -- 02, #104: two firms post the same prints, each in its own order.
-use Rattle.std.specs.Prelude.{ℕ, ◌<◌, ◌≡◌, true, length}
-use Rattle.std.proofs.Math.Option.{some}
+use Rattle.std.specs.Prelude.{ℕ, ◌<◌, ◌≡◌, true, length, Some}
 use Rattle.rules.specs.Log.{Log, Among, size, all}
 use Rattle.rules.specs.Bytes.{Bytes, are_bytes, zeros}
 use Rattle.rules.specs.Answers.{Method, Settle}
@@ -82,7 +81,7 @@ pub record AnyOrder : Type 0 where
       → (opening_in bs ≡ opening_in cs) × (without_arrival (holdings_in bs) ≡ without_arrival (holdings_in cs))
   -- the plain case: the same offers in both, refused ones included, and all of them of the feed
   pub plain : (u w : Upload) (feed : Log Quote) (o : Opening) → is_feed feed ≡ true
-      → opening (commands_of u) ≡ some o → opening (commands_of w) ≡ some o → not_fixed_or_freed (commands_of u) ≡ true → not_fixed_or_freed (commands_of w) ≡ true
+      → opening (commands_of u) ≡ Some o → opening (commands_of w) ≡ Some o → not_fixed_or_freed (commands_of u) ≡ true → not_fixed_or_freed (commands_of w) ≡ true
       → ((q : Quote) → Among q (offers (commands_of u)) → Among q feed)
       → ((q : Quote) → Among q (offers (commands_of u)) → Among q (offers (commands_of w))) → ((q : Quote) → Among q (offers (commands_of w)) → Among q (offers (commands_of u)))
       → SamePrints u w feed o

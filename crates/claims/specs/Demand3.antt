@@ -1,6 +1,5 @@
 -- Demand 3: one claim about every list of entries, of any bytes, given in turn to one zeroed book.
-use Rattle.std.specs.Prelude.{ℕ, suc, ◌<◌, ◌≡◌, Bool, true, false, ◌&&◌, ◌||◌, ◌∷◌, ℤ}
-use Rattle.std.proofs.Math.Option.{Option, none, some}
+use Rattle.std.specs.Prelude.{ℕ, suc, ◌<◌, ◌≡◌, Bool, true, false, ◌&&◌, ◌||◌, ◌∷◌, ℤ, Option, None, Some}
 use Rattle.std.specs.Int.Signed.{le_z}
 use Rattle.rules.specs.Log.{Log, ε, ◌▹◌}
 use Rattle.rules.specs.Bytes.{Bytes, are_bytes, signed_bytes, fits}
@@ -25,7 +24,7 @@ Each P (l ▹ e) = Each P l × P l e
 -- a Settle is fair to the ledger of the commands j, on which it was answered
 pub record Fair (j : Log Command) (m : Method) (price samples : ℕ) : Type 0 where
   pub opened : Opening
-  pub is_opening : opening j ≡ some opened
+  pub is_opening : opening j ≡ Some opened
   pub settle : FairSettle opened (taken_events j) m price samples
 
 abbrev pub FairAnswer : Log Command → Answer → Type 0
@@ -57,8 +56,8 @@ is_ask (Withdraw now i) = false
 
 -- an entry that may stand between the asks of series s: no command of s, an ask, or one that is refused; so no accepted withdraw (#103)
 abbrev pub may_stand : Option Command → Answer → Bool
-may_stand none a = true
-may_stand (some c) a = is_ask c || is_refused a
+may_stand None a = true
+may_stand (Some c) a = is_ask c || is_refused a
 
 -- the entries of l and then those of m
 infixl 20 ◌▹▹◌

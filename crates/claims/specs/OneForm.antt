@@ -1,6 +1,5 @@
 -- Each acceptable record has one byte form; a refusal and another series' command change no byte.
-use Rattle.std.specs.Prelude.{ℕ, ◌≡◌, Bool, true, ◌&&◌, length, eqb}
-use Rattle.std.proofs.Math.Option.{none}
+use Rattle.std.specs.Prelude.{ℕ, ◌≡◌, Bool, true, ◌&&◌, length, eqb, None}
 use Rattle.rules.specs.Log.{Log, all}
 use Rattle.rules.specs.Bytes.{Bytes, are_bytes}
 use Rattle.rules.specs.Answers.{ok, Refused}
@@ -30,4 +29,4 @@ RefusalKeeps = (book e : Bytes) (r : ℕ) → answer_to book e ≡ Refused r →
 
 -- an entry changes no byte of the record of a series that it is no command of
 abbrev pub OthersKeep : Type 0
-OthersKeep = (book e : Bytes) (s : ℕ) → command_to s (entry e) ≡ none → record_at s (book_after book e) ≡ record_at s book
+OthersKeep = (book e : Bytes) (s : ℕ) → command_to s (entry e) ≡ None → record_at s (book_after book e) ≡ record_at s book

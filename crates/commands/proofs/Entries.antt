@@ -1,13 +1,13 @@
 -- An entry by its first byte, and the series of its command.
 use Rattle.std.specs.Prelude.{if◌then◌else◌}
-use Prim.Native.Nat.{ℕ, ◌<◌}
+use Prim.Native.Nat.{ℕ, ◌≤◌, ◌<◌}
 use mathlib.Core.Path.{◌≡◌, refl, sym, ap}
 use mathlib.Core.Bool.{Bool, true, false}
 use mathlib.Core.List.{[], ◌∷◌}
 use native.Mathlib.Omega.{arith}
 use lib.ListN.{length, get_or}
 use lib.Dec.{ltb, eqb}
-use borrow.Author.Tests.{ltb-true}
+use borrow.Author.Tests.{ltb-true, ne_eqb}
 use Rattle.rules.specs.Bytes.{Bytes, unsigned_at}
 use Rattle.rules.specs.Series.{Command, Open, Offer, Ask, Fix, Withdraw}
 use Rattle.rules.specs.Record.{series_count}
@@ -36,6 +36,12 @@ pub entry-from : (bs : Bytes) {b : ℕ} → 0 < length bs → get_or bs 0 0 ≡ 
 unfolding entry
 entry-from [] h e = absurd (omega arith)
 entry-from (a ∷ bs) h e = sym (ap (from (a ∷ bs)) e)
+
+pub entry_unknown : (bs : Bytes) → 1 ≤ length bs → (get_or bs 0 0 ≡ 1 → ⊥) → (get_or bs 0 0 ≡ 2 → ⊥) → (get_or bs 0 0 ≡ 3 → ⊥) → (get_or bs 0 0 ≡ 4 → ⊥) → (get_or bs 0 0 ≡ 6 → ⊥)
+    → no_command 32 ≡ entry bs
+entry_unknown bs h one two three four six =
+    simp (ne_eqb (get_or bs 0 0) 1 one, ne_eqb (get_or bs 0 0) 2 two, ne_eqb (get_or bs 0 0) 3 three, ne_eqb (get_or bs 0 0) 4 four, ne_eqb (get_or bs 0 0) 6 six)
+    at (entry-from bs (omega arith) refl)
 
 -- ---- the series of a command
 

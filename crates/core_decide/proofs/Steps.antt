@@ -1,9 +1,9 @@
 -- The steps of the decision, over plain numbers: where the tests ahead of a step fail and its own passes, its answer is the decision.
-use Prim.Native.Nat.{ℕ, ◌+◌, ◌*◌, ◌^◌, ◌≤◌, ◌<◌}
+use Rattle.std.specs.Prelude.{Option, None, Some}
+use Prim.Native.Nat.{ℕ, ◌≤◌, ◌<◌}
 use mathlib.Core.Path.{◌≡◌, refl, sym, ◌∙◌}
 use mathlib.Core.Bool.{Bool, true, false, not}
 use native.Mathlib.Omega.{arith}
-use native.Mathlib.Nat.{zero-add}
 use borrow.Author.Tests.{not-true, lt-ltb, le-ltb, le-leb, lt-leb}
 use lib.IntN.{ℤ, pos, ◌+ℤ◌}
 use lib.Signed.{lt_z}
@@ -19,12 +19,8 @@ use Rattle.rules.specs.Terms.{Terms, slots}
 use Rattle.rules.specs.Taking.{Candidates}
 use Rattle.rules.specs.Decision.{H, ones, max_z, settle, from, Order, window_first, decide_by}
 use Rattle.numbers.specs.Times.{time_of}
-use Rattle.numbers.specs.declared.time.Time.{Time}
-use Rattle.numbers.specs.declared.time.Time.TheVariants.{At, Overflow}
 use Rattle.numbers.proofs.Times.{over_is, later-fits}
-use Rattle.core_decide.specs.declared.decide.Due.{Due}
-use Rattle.core_decide.specs.declared.decide.Due.TheVariants as U
-use Rattle.core_decide.specs.Decisions.{chain_first, due_of, decide_from}
+use Rattle.core_decide.specs.Decisions.{chain_first, decide_from}
 
 -- A time and an exponent as the machine hands them on, in bits. They fit, so nothing is lost.
 abbrev sent : ℤ → ℤ
@@ -43,26 +39,12 @@ later_is : (x y T : ℤ) → SFits w64 x → SFits w64 y → T ≡ max_z (sent x
 later_is x y T f g e = simp to_z-of_z at e
 
 -- by what `after` said of a time x + d
-module _ (x : ℤ) (d : ℕ) (f : SFits w64 x) (r : Time) (said : r ≡ time_of (sent x +ℤ pos d)) where
-  pub sum_is : (y : ℤ) → r ≡ At y → At y ≡ time_of (x +ℤ pos d)
+module _ (x : ℤ) (d : ℕ) (f : SFits w64 x) (r : Option ℤ) (said : r ≡ time_of (sent x +ℤ pos d)) where
+  pub sum_is : (y : ℤ) → r ≡ Some y → Some y ≡ time_of (x +ℤ pos d)
   sum_is y k = sym k ∙ simp to_z-of_z at said
 
-  pub sum_over : r ≡ Overflow → fits (x +ℤ pos d) ≡ false
+  pub sum_over : r ≡ None → fits (x +ℤ pos d) ≡ false
   sum_over k = over_is (x +ℤ pos d) (sym k ∙ simp to_z-of_z at said)
-
--- by what `reached` said of the answer a
-module _ (t now : ℤ) (d : ℕ) (a : Answer) (ft : SFits w64 t) (fn : SFits w64 now) where
-  said : (r : Due) → due_of r a ≡ from (sent now) (sent t +ℤ pos d) a → due_of r a ≡ from now (t +ℤ pos d) a
-  said r e = simp to_z-of_z at e
-
-  pub comes : (r : Due) → r ≡ U.Now → due_of r a ≡ from (sent now) (sent t +ℤ pos d) a → a ≡ from now (t +ℤ pos d) a
-  comes r k e = rw k at (said r e)
-
-  pub waits : (r : Due) (u : ℤ) → SFits w64 u → r ≡ U.Wait u → due_of r a ≡ from (sent now) (sent t +ℤ pos d) a → Wait (sent u) ≡ from now (t +ℤ pos d) a
-  waits r u fu k e = rw to_z-of_z (rw k at (said r e))
-
-  pub over : (r : Due) → r ≡ U.Overflow → due_of r a ≡ from (sent now) (sent t +ℤ pos d) a → Refused 0 ≡ from now (t +ℤ pos d) a
-  over r k e = rw k at (said r e)
 
 module _ (t : Terms) (E : ℤ) (c : Candidates) (now : ℤ) (r : Order) where
   pub expiry-ahead : lt_z now E ≡ true → Wait E ≡ decide_by t E c now r
@@ -140,13 +122,13 @@ module _ (t : Terms) (E : ℤ) (c : Candidates) (now h : ℤ) (r : Order) (deadl
 
       module _ (empty : n ≤ 0) where
         pub fallback : (T : ℤ) → SFits w64 c.fallback_changed → T ≡ max_z (sent h) (sent c.fallback_changed) → 0 < c.fallback_price
-            → a ≡ from (sent now) (sent T +ℤ pos t.delay) (settle t.exponent Method.Fallback (0 * 2 ^ 64 + c.fallback_price) 1)
+            → a ≡ from (sent now) (sent T +ℤ pos t.delay) (settle t.exponent Method.Fallback c.fallback_price 1)
             → a ≡ decide_from 5 t E c now r
         fallback T fc e l q =
             let k = later_is h c.fallback_changed T fh fc e in
             let fT = later-fits h c.fallback_changed T k fh fc in
             let after = behind r n m (omega (arith, empty)) in
-            simp (← deadline, past, ← links, ← filled, after, no_link_lem r n m over after, le-ltb 0 n empty, lt-ltb 0 c.fallback_price l, ← k) (simp (to_z-of_z, zero-add) at q)
+            simp (← deadline, past, ← links, ← filled, after, no_link_lem r n m over after, le-ltb 0 n empty, lt-ltb 0 c.fallback_price l, ← k) (simp to_z-of_z at q)
 
         pub void : c.fallback_price ≤ 0 → a ≡ from (sent now) (sent h +ℤ pos t.delay) Answer.Void → a ≡ decide_from 5 t E c now r
         void l q =

@@ -1,19 +1,21 @@
 // The settlement cascade: what a series' candidates settle at, and from when.
-ghost use Rattle.std.specs.Prelude.{◌≡◌, ◌+◌, ◌*◌, ◌^◌, ◌≤◌, ℤ, pos, ◌+ℤ◌};
+ghost use Rattle.std.specs.Prelude.{◌≡◌, ◌+◌, ◌*◌, ◌^◌, ◌≤◌, ℤ, pos, ◌+ℤ◌, Result};
 ghost use Rattle.rules.specs.Log.{front, total};
-ghost use Rattle.rules.specs.Answers.{Answer, number, method};
+ghost use Rattle.rules.specs.Answers.{Answer, number};
 ghost use Rattle.rules.specs.Decision.{ones, settle, from, voted, decide_by};
 ghost use Rattle.rules.specs.State.{candidates_of, decide_call};
-ghost use Rattle.numbers.specs.Wides.{wide_of};
 ghost use Rattle.core_terms.specs.Params.{terms_of};
+ghost use Rattle.core_terms.specs.declared.error.CoreError.{CoreError};
 ghost use Rattle.core_parts.specs.States.{stored_of};
-ghost use Rattle.core_decide.specs.Decisions.{method_of, method_result_of, decision_of, order_of, chain_first, due_of, decide_from};
+ghost use Rattle.core_decide.specs.Decisions.{method_of, IsMethod, decision_of, order_of, chain_first, decide_from};
+ghost use Rattle.core_decide.specs.declared.decide.Decision.{Decision};
 
 use core_parts::state::SettlementParts;
-use core_prices::mean::{PriceResult, to_atoms};
+use core_prices::mean::to_atoms;
 use core_terms::error::CoreError;
 use core_terms::params::OracleParams;
 use core_terms::units::{StrikeUsd, UnixTimestamp};
+use numbers::time::{after, later};
 
 #[derive(Clone, Copy)]
 pub enum SettleMethod {
@@ -25,27 +27,26 @@ pub enum SettleMethod {
     Void,
 }
 
-#[derive(Clone, Copy)]
-pub enum MethodResult {
-    Ok(SettleMethod),
-    Err(CoreError),
+impl TryFrom<u8> for SettleMethod {
+    type Error = CoreError;
+
+    ghost try_from_gives = { IsMethod };
+
+    #[tactic(auto, unfolding(rules::specs::Answers::method))]
+    fn try_from(value: u8) -> Result<Self, CoreError> {
+        match value {
+            0 => Ok(SettleMethod::Window),
+            1 => Ok(SettleMethod::NextPrint),
+            2 => Ok(SettleMethod::PartialNextPrint),
+            3 => Ok(SettleMethod::PartialWindow),
+            4 => Ok(SettleMethod::Fallback),
+            5 => Ok(SettleMethod::Void),
+            _ => Err(CoreError::InvalidDiscriminant),
+        }
+    }
 }
 
 impl SettleMethod {
-    pub fn try_from(value: u8) -> MethodResult
-        ensures { method_result_of result ≡ method value }
-    {
-        match value {
-            0 => MethodResult::Ok(SettleMethod::Window),
-            1 => MethodResult::Ok(SettleMethod::NextPrint),
-            2 => MethodResult::Ok(SettleMethod::PartialNextPrint),
-            3 => MethodResult::Ok(SettleMethod::PartialWindow),
-            4 => MethodResult::Ok(SettleMethod::Fallback),
-            5 => MethodResult::Ok(SettleMethod::Void),
-            _ => MethodResult::Err(CoreError::InvalidDiscriminant),
-        }
-    }
-
     pub fn number(self) -> u8
         ensures { result ≡ number (method_of self) }
     {
@@ -73,12 +74,6 @@ pub enum Decision {
     },
 }
 
-#[derive(Clone, Copy)]
-pub enum DecisionResult {
-    Ok(Decision),
-    Err(CoreError),
-}
-
 // Which of the two partial steps comes first: of old the chain's, by the members' vote the window's
 // where it has more prints, else the chain's (#109).
 #[derive(Clone, Copy)]
@@ -87,39 +82,34 @@ pub enum Order {
     Voted,
 }
 
-// Whether a time has come.
-#[derive(Clone, Copy)]
-enum Due {
-    Now,
-    Wait(i64),
-    Overflow,
-}
-
-// Whether t + d has come.
-fn reached(t: i64, d: u32, now: i64) -> Due
-    ensures { (a : Answer) → due_of result a ≡ from now (t +ℤ pos d) a }
+// What `then` gives once t + d has come, and until then a Wait for it.
+fn from_then<F: FnOnce() -> Result<Decision, CoreError>>(
+    t: i64,
+    d: u32,
+    now: i64,
+    then: F,
+) -> Result<Decision, CoreError>
+    requires { F.pre then }
+    ensures { (a : Answer) → ((r : Result Decision CoreError) → F.post then r → decision_of r ≡ a) → decision_of result ≡ from now (t +ℤ pos d) a }
 {
-    let numbers::time::Time::At(until) = numbers::time::after(t, d) else {
-        return Due::Overflow;
+    let Some(until) = after(t, d) else {
+        return Err(CoreError::Overflow);
     };
     if now < until {
-        return Due::Wait(until);
+        return Ok(Decision::Wait { until });
     }
-    Due::Now
+    then()
 }
 
-// By the mean of count prices with the sum high * 2^64 + low.
-fn settle(method: SettleMethod, low: u64, high: u64, count: u16, expo: i8) -> DecisionResult
-    ensures { decision_of result ≡ settle expo (method_of method) (high * 2 ^ 64 + low) count }
+// By the mean of count prices with this sum.
+fn settle(method: SettleMethod, sum: u128, count: u16, expo: i8) -> Result<Decision, CoreError>
+    ensures { decision_of result ≡ settle expo (method_of method) sum count }
 {
-    match to_atoms(low, high, count as u32, expo) {
-        PriceResult::Ok(price) => DecisionResult::Ok(Decision::Settle {
-            method: method,
-            price: price,
-            samples: count,
-        }),
-        PriceResult::Err(e) => DecisionResult::Err(e),
-    }
+    Ok(Decision::Settle {
+        method,
+        price: to_atoms(sum, count as u32, expo)?,
+        samples: count,
+    })
 }
 
 // The same, from the terms' delay after t on.
@@ -128,17 +118,17 @@ fn settle_from(
     t: i64,
     now: i64,
     method: SettleMethod,
-    low: u64,
-    high: u64,
+    sum: u128,
     count: u16,
-) -> DecisionResult
-    ensures { decision_of result ≡ from now (t +ℤ pos p.challenge_delay_s) (settle p.expo (method_of method) (high * 2 ^ 64 + low) count) }
+) -> Result<Decision, CoreError>
+    ensures { decision_of result ≡ from now (t +ℤ pos p.challenge_delay_s) (settle p.expo (method_of method) sum count) }
 {
-    match reached(t, p.challenge_delay_s, now) {
-        Due::Now => settle(method, low, high, count, p.expo),
-        Due::Wait(due) => DecisionResult::Ok(Decision::Wait { until: due }),
-        Due::Overflow => DecisionResult::Err(CoreError::Overflow),
-    }
+    from_then(
+        t,
+        p.challenge_delay_s,
+        now,
+        || settle(method, sum, count, p.expo),
+    )
 }
 
 // A sum of at most five prices, high * 2^64 + low (#108).
@@ -155,8 +145,7 @@ fn add_prices(prices: [u64; 5], len: u8) -> Narrow
 {
     let mut high: u8 = 0;
     let mut low: u64 = 0;
-    let mut i: usize = 0;
-    while i < 5 {
+    for i in 0..5 {
         if i < (len as usize) {
             let price = prices[i];
             let room = 0xffff_ffff_ffff_ffff - price;
@@ -167,24 +156,16 @@ fn add_prices(prices: [u64; 5], len: u8) -> Narrow
                 high += 1;
             }
         }
-        i += 1;
     }
-    Narrow {
-        high: high,
-        low: low,
-    }
+    Narrow { high, low }
 }
 
 // The sum of the first len prices.
-fn chain_sum(prices: [u64; 5], len: u8) -> numbers::wide::Wide
-    ensures { wide_of result ≡ total (front 0 len prices) }
+fn chain_sum(prices: [u64; 5], len: u8) -> u128
+    ensures { result ≡ total (front 0 len prices) }
 {
-    let sum = add_prices(prices, len);
-    let high = sum.high as u64;
-    numbers::wide::Wide {
-        high: high,
-        low: sum.low,
-    }
+    let Narrow { high, low } = add_prices(prices, len);
+    (high as u128) * 0x1_0000_0000_0000_0000 + (low as u128)
 }
 
 // By the mean of the chain's prices, from the terms' delay after t on. The sum is taken only then.
@@ -194,29 +175,20 @@ fn chain_from(
     t: i64,
     now: i64,
     method: SettleMethod,
-) -> DecisionResult
+) -> Result<Decision, CoreError>
     ensures { decision_of result ≡ from now (t +ℤ pos p.challenge_delay_s) (settle p.expo (method_of method) (total (front 0 s.next_len s.next_prices)) s.next_len) }
 {
-    match reached(t, p.challenge_delay_s, now) {
-        Due::Now => {
-            let prices = s.next_prices;
-            let sum = chain_sum(prices, s.next_len);
-            settle(method, sum.low, sum.high, s.next_len as u16, p.expo)
-        }
-        Due::Wait(until) => DecisionResult::Ok(Decision::Wait { until: until }),
-        Due::Overflow => DecisionResult::Err(CoreError::Overflow),
-    }
+    from_then(t, p.challenge_delay_s, now, || {
+        let sum = chain_sum(s.next_prices, s.next_len);
+        settle(method, sum, s.next_len as u16, p.expo)
+    })
 }
 
 // No price, from the terms' delay after t on.
-fn void_from(p: OracleParams, t: i64, now: i64) -> DecisionResult
+fn void_from(p: OracleParams, t: i64, now: i64) -> Result<Decision, CoreError>
     ensures { decision_of result ≡ from now (t +ℤ pos p.challenge_delay_s) Answer.Void }
 {
-    match reached(t, p.challenge_delay_s, now) {
-        Due::Now => DecisionResult::Ok(Decision::Void),
-        Due::Wait(until) => DecisionResult::Ok(Decision::Wait { until: until }),
-        Due::Overflow => DecisionResult::Err(CoreError::Overflow),
-    }
+    from_then(t, p.challenge_delay_s, now, || Ok(Decision::Void))
 }
 
 // Whether the chain has its turn, with n slots filled: there is a link, and the window is not ahead.
@@ -243,31 +215,30 @@ fn partial(
     hard: i64,
     now: i64,
     order: Order,
-) -> DecisionResult
+) -> Result<Decision, CoreError>
     ensures { (E : ℤ) → hard ≡ E +ℤ pos p.hard_deadline_s → n ≡ ones s.filled_slots → decision_of result ≡ decide_from 5 (terms_of p) E (candidates_of (stored_of s)) now (order_of order) }
 {
     if now < hard {
-        return DecisionResult::Ok(Decision::Wait { until: hard });
+        return Ok(Decision::Wait { until: hard });
     }
     if chain_first(s.next_len, n, order) {
-        let t = numbers::time::later(hard, s.next_print_changed);
+        let t = later(hard, s.next_print_changed);
         return chain_from(p, s, t, now, SettleMethod::PartialNextPrint);
     }
     if 0 < n {
-        let t = numbers::time::later(hard, s.window_changed);
+        let t = later(hard, s.window_changed);
+        return settle_from(p, t, now, SettleMethod::PartialWindow, s.sample_sum, n);
+    }
+    if 0 < s.fallback_price {
+        let t = later(hard, s.fallback_changed);
         return settle_from(
             p,
             t,
             now,
-            SettleMethod::PartialWindow,
-            s.sample_sum_low,
-            s.sample_sum_high,
-            n,
+            SettleMethod::Fallback,
+            s.fallback_price as u128,
+            1,
         );
-    }
-    if 0 < s.fallback_price {
-        let t = numbers::time::later(hard, s.fallback_changed);
-        return settle_from(p, t, now, SettleMethod::Fallback, s.fallback_price, 0, 1);
     }
     void_from(p, hard, now)
 }
@@ -279,36 +250,22 @@ fn cascade(
     expiry: i64,
     now: i64,
     order: Order,
-) -> DecisionResult
+) -> Result<Decision, CoreError>
     ensures { decision_of result ≡ decide_by (terms_of p) expiry (candidates_of (stored_of s)) now (order_of order) }
 {
     if now < expiry {
-        return DecisionResult::Ok(Decision::Wait { until: expiry });
+        return Ok(Decision::Wait { until: expiry });
     }
-    let numbers::time::Time::At(hard) = numbers::time::after(expiry, p.hard_deadline_s) else {
-        return DecisionResult::Err(CoreError::Overflow);
+    let Some(hard) = after(expiry, p.hard_deadline_s) else {
+        return Err(CoreError::Overflow);
     };
     let n = u32::count_ones(s.filled_slots) as u16;
     if p.slots() <= (n as u32) {
-        return settle(
-            SettleMethod::Window,
-            s.sample_sum_low,
-            s.sample_sum_high,
-            n,
-            p.expo,
-        );
+        return settle(SettleMethod::Window, s.sample_sum, n, p.expo);
     }
     if p.min_samples <= n {
-        let t = numbers::time::later(expiry, s.window_changed);
-        return settle_from(
-            p,
-            t,
-            now,
-            SettleMethod::Window,
-            s.sample_sum_low,
-            s.sample_sum_high,
-            n,
-        );
+        let t = later(expiry, s.window_changed);
+        return settle_from(p, t, now, SettleMethod::Window, s.sample_sum, n);
     }
     if p.k_next_print <= s.next_len {
         return chain_from(p, s, expiry, now, SettleMethod::NextPrint);
@@ -324,15 +281,10 @@ pub fn decide_by(
     expiry: UnixTimestamp,
     now: i64,
     order: Order,
-) -> DecisionResult
+) -> Result<Decision, CoreError>
     ensures { decision_of result ≡ decide_call (order_of order) (terms_of params) expiry.0 (stored_of state) now }
 {
-    if !params.in_range() {
-        return DecisionResult::Err(CoreError::InvalidOracleParams);
-    }
-    if !state.fits(params.slots(), params.k_next_print) {
-        return DecisionResult::Err(CoreError::InvariantViolated);
-    }
+    state.check(params)?;
     cascade(params, state, expiry.get(), now, order)
 }
 
@@ -342,7 +294,7 @@ pub fn decide(
     params: OracleParams,
     expiry: UnixTimestamp,
     now: i64,
-) -> DecisionResult
+) -> Result<Decision, CoreError>
     ensures { decision_of result ≡ decide_call voted (terms_of params) expiry.0 (stored_of state) now }
 {
     decide_by(state, params, expiry, now, Order::Voted)

@@ -1,36 +1,36 @@
 -- The stored parts, read as the rules' parts.
-use Rattle.std.specs.Prelude.{ℕ, zero, suc, ◌+◌, ◌*◌, ◌-◌, ◌^◌, Bool, true, ◌&&◌, ◌||◌, List, get_or, ℤ, pos, ltb, eqb, if◌then◌else◌}
+use Rattle.std.specs.Prelude.{ℕ, zero, suc, ◌-◌, Bool, true, ◌&&◌, ◌||◌, List, get_or, ℤ, pos, ltb, eqb, if◌then◌else◌, Result}
 use Rattle.std.specs.Int.Signed.{lt_z}
 use Rattle.rules.specs.Answers as R
 use Rattle.rules.specs.Prints.{eq_z}
 use Rattle.rules.specs.State.{Parts}
+use Rattle.core_terms.specs.Errors.{answered}
+use Rattle.core_terms.specs.declared.error.CoreError.{CoreError}
 use Rattle.core_parts.specs.declared.state.SettlementParts.{SettlementParts}
-
--- parts from their values, the sum as two halves
-abbrev parts_with : (bits high low links : ℕ) (times : List ℤ) (prices : List ℕ) (fallback_time : ℤ) (fallback_price : ℕ) (window_changed link_changed fallback_changed : ℤ) → Parts
-parts_with bits high low links times prices fallback_time fallback_price window_changed link_changed fallback_changed =
-    record {
-      bits = bits;
-      sum = high * 2 ^ 64 + low;
-      links = links;
-      times = times;
-      prices = prices;
-      fallback_time = fallback_time;
-      fallback_price = fallback_price;
-      window_changed = window_changed;
-      link_changed = link_changed;
-      fallback_changed = fallback_changed;
-    }
 
 unfoldable pub stored_of : SettlementParts → Parts
 stored_of s =
-    parts_with s.filled_slots s.sample_sum_high s.sample_sum_low s.next_len s.next_times s.next_prices
-    s.fallback_time s.fallback_price s.window_changed s.next_print_changed s.fallback_changed
+    record {
+      bits = s.filled_slots;
+      sum = s.sample_sum;
+      links = s.next_len;
+      times = s.next_times;
+      prices = s.next_prices;
+      fallback_time = s.fallback_time;
+      fallback_price = s.fallback_price;
+      window_changed = s.window_changed;
+      link_changed = s.next_print_changed;
+      fallback_changed = s.fallback_changed;
+    }
 
 -- the value, or d on a refusal
 abbrev pub value_or : {A : Type 0} → A → R.Result A → A
 value_or d (R.ok a) = a
 value_or d (R.refused r) = d
+
+-- the parts, where a check of them passed
+abbrev pub checked_of : Parts → Result Unit CoreError → R.Result Parts
+checked_of s = answered (λ u. s)
 
 -- ---- the links' five places, one by one
 

@@ -1,21 +1,20 @@
 // The settlement candidates of one series.
-ghost use Rattle.std.specs.Prelude.{◌≡◌, ◌+◌, ◌*◌, ◌^◌, ◌<◌, ltb, eqb, pos};
+ghost use Rattle.std.specs.Prelude.{◌≡◌, ◌^◌, ◌<◌, ltb, eqb, pos};
 ghost use Rattle.std.specs.Bool.{beq};
 ghost use Rattle.rules.specs.Terms.{Terms, slots};
 ghost use Rattle.rules.specs.Prints.{eq_z};
-ghost use Rattle.rules.specs.State.{good_state, parts_of};
+ghost use Rattle.rules.specs.State.{good_state, parts_of, restore};
 ghost use Rattle.rules.specs.Series.{no_candidates};
 ghost use Rattle.core_terms.specs.Params.{terms_of};
-ghost use Rattle.core_parts.specs.States.{stored_of, link_place, all_places};
+ghost use Rattle.core_parts.specs.States.{stored_of, checked_of, link_place, all_places};
 
+use core_terms::error::CoreError;
 use core_terms::params::{MAX_NEXT_PRINTS, MAX_SLOTS, OracleParams};
 
-// The candidates of one series in their stored form, untrusted until `in_range` is asked. The
-// 128-bit sum of the slots' prices stands in two halves.
-#[derive(Clone, Copy)]
+// The candidates of one series in their stored form, untrusted until `in_range` is asked.
+#[derive(Clone, Copy, PartialEq)]
 pub struct SettlementParts {
-    pub sample_sum_low: u64,
-    pub sample_sum_high: u64,
+    pub sample_sum: u128,
     pub filled_slots: u32,
     pub next_times: [i64; 5],
     pub next_prices: [u64; 5],
@@ -39,19 +38,10 @@ fn bits_ok(bits: u32, slots: u32) -> bool
 }
 
 // The sum is zero exactly when the bits are.
-fn sum_ok(bits: u32, low: u64, high: u64) -> bool
-    ensures { result ≡ beq (eqb bits 0) (eqb (high * 2 ^ 64 + low) 0) }
+fn sum_ok(bits: u32, sum: u128) -> bool
+    ensures { result ≡ beq (eqb bits 0) (eqb sum 0) }
 {
-    if bits == 0 {
-        if high != 0 {
-            return false;
-        }
-        return low == 0;
-    }
-    if high != 0 {
-        return true;
-    }
-    low != 0
+    (bits == 0) == (sum == 0)
 }
 
 // Whether place i of the links is as it should be: a price and a later time, or zeros.
@@ -82,12 +72,10 @@ fn place_ok(times: [i64; 5], prices: [u64; 5], len: u8, i: usize) -> bool
 fn places_ok(times: [i64; 5], prices: [u64; 5], len: u8) -> bool
     ensures { result ≡ all_places (link_place times prices len) 5 }
 {
-    let mut i: usize = 0;
-    while i < 5 {
+    for i in 0..5 {
         if !place_ok(times, prices, len, i) {
             return false;
         }
-        i += 1;
     }
     true
 }
@@ -96,10 +84,7 @@ fn places_ok(times: [i64; 5], prices: [u64; 5], len: u8) -> bool
 fn fallback_ok(time: i64, price: u64) -> bool
     ensures { result ≡ beq (eq_z time (pos 0)) (eqb price 0) }
 {
-    if time == 0 {
-        return price == 0;
-    }
-    price != 0
+    (time == 0) == (price == 0)
 }
 
 impl SettlementParts {
@@ -108,8 +93,7 @@ impl SettlementParts {
         ensures { stored_of result ≡ parts_of no_candidates }
     {
         SettlementParts {
-            sample_sum_low: 0,
-            sample_sum_high: 0,
+            sample_sum: 0,
             filled_slots: 0,
             next_times: [0; 5],
             next_prices: [0; 5],
@@ -131,7 +115,7 @@ impl SettlementParts {
         if !bits_ok(bits, slot_count) {
             return false;
         }
-        if !sum_ok(bits, self.sample_sum_low, self.sample_sum_high) {
+        if !sum_ok(bits, self.sample_sum) {
             return false;
         }
         let len = self.next_len;
@@ -155,5 +139,21 @@ impl SettlementParts {
         ensures { result ≡ good_state (terms_of params) (stored_of self) }
     {
         self.fits(params.slots(), params.k_next_print)
+    }
+
+    // What each core call on terms and a state asks first: 12 for the terms, 11 for the state. Inlined
+    // always: else each caller copies the state for it, 30 to 70 instructions a command.
+    #[inline(always)]
+    #[tactic(auto, unfolding(rules::specs::State::restore))]
+    pub fn check(self, params: OracleParams) -> Result<(), CoreError>
+        ensures { checked_of (stored_of self) result ≡ restore (terms_of params) (stored_of self) }
+    {
+        if !params.in_range() {
+            return Err(CoreError::InvalidOracleParams);
+        }
+        if !self.in_range(params) {
+            return Err(CoreError::InvariantViolated);
+        }
+        Ok(())
     }
 }

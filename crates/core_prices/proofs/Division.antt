@@ -2,7 +2,7 @@
 use Prim.Native.Nat.{ℕ, ◌+◌, ◌*◌, ◌/◌, ◌%◌, ◌≤◌, ◌<◌, ◌^◌}
 use mathlib.Core.Path.{◌≡◌, sym, ap, ◌∙◌}
 use native.Mathlib.Omega.{arith}
-use native.Mathlib.Nat.{div-add-mod', add-mul, mul_right_comm, mul_comm, add-mul-div_right, div-div-eq-div-mul, div-lt_iff_lt-mul, le-div_iff_mul-le, mul-le-mul_left, mul-le-mul_right, mul-pos}
+use native.Mathlib.Nat.{div-add-mod', add-mul, mul_right_comm, mul_comm, mul_assoc, mul-le-mul, add-mul-div_right, div-div-eq-div-mul, div-lt_iff_lt-mul, le-div_iff_mul-le, mul-le-mul_left, mul-le-mul_right, mul-pos}
 use borrow.Author.Tests.{lt-leb, le-leb}
 use Rattle.rules.specs.Answers.{ok, refused}
 use Rattle.rules.specs.Mean.{rounded}
@@ -36,40 +36,40 @@ priced_yes a h = rw (lt-leb (2 ^ 64) a h)
 pub priced_no : (a : ℕ) → 2 ^ 64 ≤ a → priced a ≡ refused 0
 priced_no a h = rw (le-leb (2 ^ 64) a h)
 
-reach : (a b x y z : ℕ) → a ≤ b → b ≤ x → x ≤ y → a ≤ y + z
-reach a b x y z p q r = omega arith
-
-wider : (B hi lo : ℕ) → B * hi ≤ hi * B + lo
-wider B hi lo = omega (arith, mul_comm B hi)
-
 grown : (x up : ℕ) → 0 < up → x ≤ x * up
 grown x up h = omega (arith, mul-le-mul_left x h, native.Mathlib.Nat.mul-one x)
 
--- the sum scaled, with half the divisor added, in words high and low
-module _ (lo hi n up down high low : ℕ) (n⁺ : 0 < n) (down⁺ : 0 < down) (up⁺ : 0 < up) where
+-- the sum scaled, with half the divisor added
+module _ (sum n up down : ℕ) (n⁺ : 0 < n) (down⁺ : 0 < down) (up⁺ : 0 < up) where
+  abbrev scaled : ℕ
+  scaled = sum * up + n * down / 2
+
   den⁺ : 0 < n * down
   den⁺ = mul-pos n⁺ down⁺
 
+  too_high : 2 ^ 64 * (n * down) ≤ scaled → priced (rounded (sum * up) (n * down)) ≡ refused 0
+  too_high h = rw (rounded_is (sum * up) (n * down)) (priced_no _ ((le-div_iff_mul-le {x = 2 ^ 64} {y = scaled} den⁺).1 h))
+
   -- a sum whose upper word reaches the divisor
-  pub refused_early : n * down ≤ hi → priced (rounded ((hi * 2 ^ 64 + lo) * up) (n * down)) ≡ refused 0
-  refused_early h =
-      rw (rounded_is ((hi * 2 ^ 64 + lo) * up) (n * down))
-      (priced_no _ ((le-div_iff_mul-le {x = 2 ^ 64} {y = (hi * 2 ^ 64 + lo) * up + n * down / 2} den⁺).1
-      (reach _ _ _ _ _ (mul-le-mul_left (2 ^ 64) h) (wider (2 ^ 64) hi lo) (grown (hi * 2 ^ 64 + lo) up up⁺))))
+  pub refused_early : n * down ≤ sum / 2 ^ 64 → priced (rounded (sum * up) (n * down)) ≡ refused 0
+  refused_early h = too_high (omega (arith, grown sum up up⁺))
 
-  module _ (same : high * 2 ^ 64 + low ≡ hi * up * 2 ^ 64 + (lo * up + n * down / 2)) where
-    words : (hi * 2 ^ 64 + lo) * up + n * down / 2 ≡ high * 2 ^ 64 + low
-    words = omega (arith, add-mul (hi * 2 ^ 64) lo up, mul_right_comm hi (2 ^ 64) up)
+  pub refused_late : n * down ≤ scaled / 2 ^ 64 → priced (rounded (sum * up) (n * down)) ≡ refused 0
+  refused_late h = too_high (omega arith)
 
-    pub refused_late : n * down ≤ high → priced (rounded ((hi * 2 ^ 64 + lo) * up) (n * down)) ≡ refused 0
-    refused_late h =
-        rw (rounded_is ((hi * 2 ^ 64 + lo) * up) (n * down))
-        (priced_no _ ((le-div_iff_mul-le {x = 2 ^ 64} {y = (hi * 2 ^ 64 + lo) * up + n * down / 2} den⁺).1 (omega (arith, words))))
+  -- it is far from 2^128 elsewhere
+  pub scaled_small : sum / 2 ^ 64 < n * down → n ≤ 4294967295 → down ≤ 1000000 → down * up ≤ 1000000 → scaled < 4294967296 * 1000000 * 2 ^ 64
+  scaled_small h k d u =
+      let s : sum * up ≤ n * down * 2 ^ 64 * up = mul-le-mul_right up (omega arith) in
+      let t : n * (down * up) ≤ 4294967295 * 1000000 = mul-le-mul {n₂ = 4294967295} {m₂ = 1000000} k u in
+      let v : n * down ≤ 4294967295 * 1000000 = mul-le-mul {n₂ = 4294967295} {m₂ = 1000000} k d in
+      omega (arith, mul_right_comm (n * down) (2 ^ 64) up, mul_assoc n down up)
 
-    pub taken : low < 2 ^ 64 → high < n * down → priced (rounded ((hi * 2 ^ 64 + lo) * up) (n * down)) ≡ ok ((high / down * 2 ^ 64 + (high % down * 2 ^ 64 + low) / down) / n)
-    taken f h =
-        rw (rounded_is ((hi * 2 ^ 64 + lo) * up) (n * down), words)
-        (priced_yes _ (quotient_below (high * 2 ^ 64 + low) (2 ^ 64) (n * down) den⁺ (omega arith))
-        ∙ ap ok (ap (λ (m : ℕ). (high * 2 ^ 64 + low) / m) (mul_comm n down)
-        ∙ sym (div-div-eq-div-mul (high * 2 ^ 64 + low) down n)
-        ∙ ap (λ (m : ℕ). m / n) (step high (2 ^ 64) low down down⁺)))
+  pub taken : scaled / 2 ^ 64 < n * down
+      → priced (rounded (sum * up) (n * down)) ≡ ok ((scaled / 2 ^ 64 / down * 2 ^ 64 + (scaled / 2 ^ 64 % down * 2 ^ 64 + scaled % 2 ^ 64) / down) / n)
+  taken h =
+      rw (rounded_is (sum * up) (n * down))
+      (priced_yes _ (quotient_below scaled (2 ^ 64) (n * down) den⁺ (omega arith))
+      ∙ ap ok (ap (λ (m : ℕ). scaled / m) (mul_comm n down)
+      ∙ sym (div-div-eq-div-mul scaled down n)
+      ∙ ap (λ (m : ℕ). m / n) (ap (λ (m : ℕ). m / down) (sym (div-add-mod' scaled (2 ^ 64))) ∙ step (scaled / 2 ^ 64) (2 ^ 64) (scaled % 2 ^ 64) down down⁺)))

@@ -1,13 +1,12 @@
 -- Prices, read as the rules' prices.
-use Rattle.std.specs.Prelude.{ℕ, ◌^◌, leb, if◌then◌else◌}
+use Rattle.std.specs.Prelude.{ℕ, ◌^◌, leb, if◌then◌else◌, Result}
 use Rattle.rules.specs.Answers as R
-use Rattle.core_terms.specs.Errors.{number_of}
-use Rattle.core_prices.specs.declared.mean.PriceResult.{PriceResult}
-use Rattle.core_prices.specs.declared.mean.PriceResult.TheVariants as P
+use Rattle.core_terms.specs.Errors.{answered}
+use Rattle.core_terms.specs.declared.error.CoreError.{CoreError}
+use Rattle.core_terms.specs.declared.units.StrikeUsd.{StrikeUsd}
 
-abbrev pub price_of : PriceResult → R.Result ℕ
-price_of (P.Ok p) = R.ok p.0
-price_of (P.Err e) = R.refused (number_of e)
+abbrev pub price_of : Result StrikeUsd CoreError → R.Result ℕ
+price_of = answered (λ p. p.0)
 
 -- a price that fits a u64, or 0
 abbrev pub priced : ℕ → R.Result ℕ

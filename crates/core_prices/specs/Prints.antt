@@ -1,12 +1,11 @@
 -- Prints, read as the rules' prints.
-use Rattle.std.specs.Prelude.{ℕ, ℤ}
+use Rattle.std.specs.Prelude.{ℕ, ℤ, Result}
 use Rattle.rules.specs.Answers as R
 use Rattle.rules.specs.Prints as P
-use Rattle.core_terms.specs.Errors.{number_of}
+use Rattle.core_terms.specs.Errors.{answered}
+use Rattle.core_terms.specs.declared.error.CoreError.{CoreError}
 use Rattle.core_prices.specs.declared.print.Print.{Print}
 use Rattle.core_prices.specs.declared.print.Quote.{Quote}
-use Rattle.core_prices.specs.declared.print.PrintResult.{PrintResult}
-use Rattle.core_prices.specs.declared.print.PrintResult.TheVariants as A
 
 abbrev pub print_at : ℕ → ℤ → ℤ → P.Print
 print_at price published prev = record { price = price; published = published; prev = prev }
@@ -14,9 +13,8 @@ print_at price published prev = record { price = price; published = published; p
 unfoldable pub print_of : Print → P.Print
 print_of p = print_at p.price p.publish_time p.prev_publish_time
 
-abbrev pub print_result_of : PrintResult → R.Result P.Print
-print_result_of (A.Ok p) = R.ok (print_of p)
-print_result_of (A.Err e) = R.refused (number_of e)
+abbrev pub print_result_of : Result Print CoreError → R.Result P.Print
+print_result_of = answered print_of
 
 abbrev pub quote_at : ℤ → ℕ → ℤ → ℤ → ℤ → P.Quote
 quote_at price conf exponent published prev =

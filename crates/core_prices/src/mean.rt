@@ -1,19 +1,12 @@
-// The mean of prices, in 64-bit arithmetic: a product by a power of ten in halves, and a long
-// division with two digits of 32 bits.
+// The mean of prices: a product by a power of ten in 128 bits, and a long division with two digits
+// of 32 bits, since a division of 128 bits takes longer.
 ghost use Rattle.std.specs.Prelude.{◌≡◌, ◌+◌, ◌*◌, ◌/◌, ◌^◌, ◌≤◌, ◌<◌};
 ghost use Rattle.rules.specs.Mean.{rounded, mean};
-ghost use Rattle.numbers.specs.Wides.{wide_of};
 ghost use Rattle.core_prices.specs.Prices.{price_of, priced};
 
 use core_terms::error::CoreError;
 use core_terms::params::{MAX_EXPO, MIN_EXPO};
 use core_terms::units::StrikeUsd;
-
-#[derive(Clone, Copy)]
-pub enum PriceResult {
-    Ok(StrikeUsd),
-    Err(CoreError),
-}
 
 // The quotient of h * 2^64 + l by d, for h < d.
 fn narrow(h: u64, l: u64, d: u64) -> u64
@@ -25,36 +18,25 @@ fn narrow(h: u64, l: u64, d: u64) -> u64
     (top / d) * 0x1_0000_0000 + rest / d
 }
 
-// lo * up + half, in two words.
-fn scaled(lo: u64, up: u64, half: u64) -> numbers::wide::Wide
-    requires { (up ≤ 1000000) × (half < 2 ^ 52) }
-    ensures { wide_of result ≡ lo * up + half }
-{
-    let t0 = (lo % 0x1_0000_0000) * up + half;
-    let t1 = (lo / 0x1_0000_0000) * up + t0 / 0x1_0000_0000;
-    numbers::wide::Wide {
-        high: t1 / 0x1_0000_0000,
-        low: (t1 % 0x1_0000_0000) * 0x1_0000_0000 + t0 % 0x1_0000_0000,
-    }
-}
-
-// (hi * 2^64 + lo) * up / (count * down), to nearest.
-fn ratio(lo: u64, hi: u64, count: u32, up: u64, down: u64) -> PriceResult
+// sum * up / (count * down), to nearest.
+fn ratio(sum: u128, count: u32, up: u64, down: u64) -> Result<StrikeUsd, CoreError>
     requires { (0 < count) × (0 < down) × (0 < up) × (up ≤ 1000000) × (down ≤ 1000000) × (down * up ≤ 1000000) }
-    ensures { price_of result ≡ priced (rounded ((hi * 2 ^ 64 + lo) * up) (count * down)) }
+    ensures { price_of result ≡ priced (rounded (sum * up) (count * down)) }
 {
     let n = count as u64;
     let den = n * down;
+    let hi = (sum >> 64) as u64;
     if den <= hi {
-        return PriceResult::Err(CoreError::Overflow);
+        return Err(CoreError::Overflow);
     }
-    let w = scaled(lo, up, den / 2);
-    let high = hi * up + w.high;
+    let scaled = sum * (up as u128) + (den / 2) as u128;
+    let high = (scaled >> 64) as u64;
     if den <= high {
-        return PriceResult::Err(CoreError::Overflow);
+        return Err(CoreError::Overflow);
     }
-    let inner = narrow(high % down, w.low, down);
-    PriceResult::Ok(StrikeUsd::new(narrow(high / down, inner, n)))
+    let low = (scaled % 0x1_0000_0000_0000_0000) as u64;
+    let inner = narrow(high % down, low, down);
+    Ok(StrikeUsd::new(narrow(high / down, inner, n)))
 }
 
 // 10^n.
@@ -73,21 +55,21 @@ fn power(n: u8) -> u64
     }
 }
 
-// The mean of count prices whose sum is sum_high * 2^64 + sum_low, at the exponent expo.
-pub fn to_atoms(sum_low: u64, sum_high: u64, count: u32, expo: i8) -> PriceResult
-    ensures { price_of result ≡ mean (sum_high * 2 ^ 64 + sum_low) count expo }
+// The mean of count prices with this sum, at the exponent expo.
+pub fn to_atoms(sum: u128, count: u32, expo: i8) -> Result<StrikeUsd, CoreError>
+    ensures { price_of result ≡ mean sum count expo }
 {
     if expo < MIN_EXPO {
-        return PriceResult::Err(CoreError::InvalidOracleParams);
+        return Err(CoreError::InvalidOracleParams);
     }
     if MAX_EXPO < expo {
-        return PriceResult::Err(CoreError::InvalidOracleParams);
+        return Err(CoreError::InvalidOracleParams);
     }
     if count == 0 {
-        return PriceResult::Err(CoreError::Overflow);
+        return Err(CoreError::Overflow);
     }
     if expo < -6 {
-        return ratio(sum_low, sum_high, count, 1, power((-6 - expo) as u8));
+        return ratio(sum, count, 1, power((-6 - expo) as u8));
     }
-    ratio(sum_low, sum_high, count, power((expo + 6) as u8), 1)
+    ratio(sum, count, power((expo + 6) as u8), 1)
 }

@@ -1,9 +1,8 @@
 -- The link that a print is, by how many there are.
-use Rattle.std.specs.Prelude.{if◌then◌else◌}
+use Rattle.std.specs.Prelude.{if◌then◌else◌, Option, None, Some}
 use Prim.Native.Nat.{ℕ, suc, ◌≤◌, ◌<◌}
 use mathlib.Core.Path.{◌≡◌, refl, ◌∙◌}
 use mathlib.Core.Bool.{Bool, true, false}
-use mathlib.Core.Option.{Option, none, some}
 use native.Mathlib.Omega.{arith}
 use borrow.Author.Tests.{ltb-true, leb-true, lt-ltb, le-ltb}
 use lib.Dec.{ltb}
@@ -24,7 +23,7 @@ unfolding good_terms
 few_links t g = leb-true t.k 5 (every_at (terms_tests t) 8 g)
 
 module _ (t : Terms) (E : ℤ) (s : Parts) (p : Print) where
-  pub no_room : t.k ≤ s.links → none ≡ link_use t E (candidates_of s) p
+  pub no_room : t.k ≤ s.links → None ≡ link_use t E (candidates_of s) p
   unfolding link_use links candidates_of
   no_room h = rw (size-front (pos 0) s.links s.times, le-ltb s.links t.k h)
 
@@ -50,6 +49,6 @@ module _ (t : Terms) (E : ℤ) (s : Parts) (p : Print) where
   unfolding link_use candidates_of
   links_fit g = go (is_link t E (candidates_of s) p) refl
     where
-      go : (b : Bool) → is_link t E (candidates_of s) p ≡ b → linkable (if b then some (size (front (pos 0) s.links s.times)) else none) ≡ true
+      go : (b : Bool) → is_link t E (candidates_of s) p ≡ b → linkable (if b then Some (size (front (pos 0) s.links s.times)) else None) ≡ true
       go true e = rw (size-front (pos 0) s.links s.times) (lt-ltb s.links 5 (room g e))
       go false e = refl

@@ -1,14 +1,12 @@
 -- A print's uses put together: the answer, and the parts after it.
-use Rattle.std.specs.Prelude.{if◌then◌else◌}
-use Prim.Native.Nat.{ℕ, zero, suc, ◌+◌, ◌*◌, ◌≤◌, ◌<◌, ◌^◌}
+use Rattle.std.specs.Prelude.{if◌then◌else◌, Option, None, Some, SomeIff}
+use Prim.Native.Nat.{ℕ, zero, suc, ◌+◌, ◌≤◌, ◌<◌, ◌^◌}
 use mathlib.Core.Path.{◌≡◌, refl, sym, ap, ◌∙◌}
 use mathlib.Core.Bool.{Bool, true, false, ◌||◌}
-use mathlib.Core.Option.{Option, none, some}
 use mathlib.Core.List.{List}
 use native.Mathlib.Omega.{arith}
 use native.Mathlib.Numerals.{add-one}
-use native.Mathlib.Nat.{div-add-mod'}
-use borrow.Author.Tests.{ltb-true, ltb-false, le-ltb, eqb-true, eqb-false}
+use borrow.Author.Tests.{ltb-true, ltb-false, lt-ltb, le-ltb, eqb-true, eqb-false}
 use lib.Dec.{ltb, eqb}
 use lib.ListN.{length, get_or, set, length-set}
 use lib.Seq.{get_or-set_same, get_or-set_other, ext_get_or}
@@ -25,21 +23,18 @@ use Rattle.rules.proofs.Bools.{both, and_false, every_at}
 use Rattle.rules.proofs.Integers.{same, le_yes}
 use Rattle.rules.proofs.Logs.{size-front, nth-front, nth_after}
 use Rattle.rules.proofs.State.{five_at}
-use Rattle.numbers.specs.Wides.{wide_of, halves, sum_of}
-use Rattle.numbers.specs.declared.wide.Wide.{Wide}
-use Rattle.numbers.specs.declared.wide.Sum.TheVariants as W
-use Rattle.core_take.specs.Placing.{slot_use, link_use, fallback_use, total_of, total_after, with_slot, with_link, with_fallback}
+use Rattle.core_take.specs.Placing.{slot_use, link_use, fallback_use, total_after, with_slot, with_link, with_fallback}
 use Rattle.core_take.proofs.Links.{room}
 
--- ---- the sum
+-- ---- a sum that fits
 
-pub plus_total : (w : Wide) (v : ℕ) → total_of (sum_of w v) ≡ (if ltb (wide_of w + v) (2 ^ 128) then some (wide_of w + v) else none)
-unfolding sum_of wide_of
-plus_total w v = go (ltb (w.high * 2 ^ 64 + w.low + v) (2 ^ 128))
+pub sum_if : (x m : ℕ) (r : Option ℕ) → SomeIff r (x < m) x → r ≡ (if ltb x m then Some x else None)
+sum_if x m None s = go (ltb x m) refl
   where
-    go : (b : Bool) → total_of (if b then W.Of (halves (w.high * 2 ^ 64 + w.low + v)) else W.Overflow) ≡ (if b then some (w.high * 2 ^ 64 + w.low + v) else none)
-    go true = ap some (div-add-mod' (w.high * 2 ^ 64 + w.low + v) (2 ^ 64))
-    go false = refl
+    go : (b : Bool) → ltb x m ≡ b → None ≡ (if b then Some x else None)
+    go true e = absurd (s (ltb-true x m e))
+    go false e = refl
+sum_if x m (Some y) (l, e) = rw (lt-ltb x m l, e)
 
 -- ---- what the calls say, by their answer
 
@@ -51,11 +46,11 @@ refused_if : {A : Type 0} (b : Bool) (n : ℕ) (y : A) → refused n ≡ (if b t
 refused_if true n y e = let n : ◌≡◌ {A = ℕ} 0 1 = cc in absurd (omega arith)
 refused_if false n y e = refl
 
-some_if : {A : Type 0} (b : Bool) (x y : A) → some x ≡ (if b then some y else none) → (b ≡ true) × (x ≡ y)
+some_if : {A : Type 0} (b : Bool) (x y : A) → Some x ≡ (if b then Some y else None) → (b ≡ true) × (x ≡ y)
 some_if true x y e = (refl, cc)
 some_if false x y e = let n : ◌≡◌ {A = ℕ} 0 1 = cc in absurd (omega arith)
 
-none_if : {A : Type 0} (b : Bool) (y : A) → none ≡ (if b then some y else none) → b ≡ false
+none_if : {A : Type 0} (b : Bool) (y : A) → None ≡ (if b then Some y else None) → b ≡ false
 none_if true y e = let n : ◌≡◌ {A = ℕ} 0 1 = cc in absurd (omega arith)
 none_if false y e = refl
 
@@ -76,12 +71,12 @@ module _ (t : Terms) (E : ℤ) (c : Candidates) (p : Print) where
   unfolding fallback_use
   fallback-refused n e = refused_if (fits (E -ℤ pos t.lookback)) n (is_fallback t E c p) e
 
-  pub sum_told : (n : ℕ) → some n ≡ total_after c.sum (slot_for t E c p) p.price
+  pub sum_told : (n : ℕ) → Some n ≡ total_after c.sum (slot_for t E c p) p.price
       → (sum_fits t E c p ≡ true) × (n ≡ maybe c.sum (λ i. c.sum + p.price) (slot_for t E c p))
   unfolding total_after
   sum_told n e = some_if (sum_fits t E c p) n (maybe c.sum (λ i. c.sum + p.price) (slot_for t E c p)) e
 
-  pub sum_over : none ≡ total_after c.sum (slot_for t E c p) p.price → sum_fits t E c p ≡ false
+  pub sum_over : None ≡ total_after c.sum (slot_for t E c p) p.price → sum_fits t E c p ≡ false
   unfolding total_after
   sum_over e = none_if (sum_fits t E c p) (maybe c.sum (λ i. c.sum + p.price) (slot_for t E c p)) e
 
@@ -113,7 +108,7 @@ module _ (t : Terms) (E : ℤ) (c : Candidates) (p : Print) where
   unfolding link_use
   use_is = go (is_link t E c p)
     where
-      go : (b : Bool) → is_some (slot_for t E c p) || is_some (if b then some (size c.times) else none) || is_fallback t E c p ≡ is_some (slot_for t E c p) || b || is_fallback t E c p
+      go : (b : Bool) → is_some (slot_for t E c p) || is_some (if b then Some (size c.times) else None) || is_fallback t E c p ≡ is_some (slot_for t E c p) || b || is_fallback t E c p
       go true = refl
       go false = refl
 
@@ -243,15 +238,15 @@ module _ (t : Terms) (E : ℤ) (s : Parts) (p : Print) (now : ℤ) (g : good_ter
   more_prices l = five_more 0 s.prices s.links prices-length (λ j l m. (zeros j l m).1) p.price l
 
   steps : (u : Option ℕ) (l f : Bool) → (l ≡ true → s.links < 5)
-      → stepwise u (if l then some s.links else none) f (maybe s.sum (λ i. s.sum + p.price) u) ≡ after u l f
-  steps none true true r = by_links none true true _ _ _ more_links (more_times (r refl)) (more_prices (r refl))
-  steps none true false r = by_links none true false _ _ _ more_links (more_times (r refl)) (more_prices (r refl))
-  steps none false true r = by_links none false true _ _ _ kept_links kept_times kept_prices
-  steps none false false r = by_links none false false _ _ _ kept_links kept_times kept_prices
-  steps (some i) true true r = by_links (some i) true true _ _ _ more_links (more_times (r refl)) (more_prices (r refl))
-  steps (some i) true false r = by_links (some i) true false _ _ _ more_links (more_times (r refl)) (more_prices (r refl))
-  steps (some i) false true r = by_links (some i) false true _ _ _ kept_links kept_times kept_prices
-  steps (some i) false false r = by_links (some i) false false _ _ _ kept_links kept_times kept_prices
+      → stepwise u (if l then Some s.links else None) f (maybe s.sum (λ i. s.sum + p.price) u) ≡ after u l f
+  steps None true true r = by_links None true true _ _ _ more_links (more_times (r refl)) (more_prices (r refl))
+  steps None true false r = by_links None true false _ _ _ more_links (more_times (r refl)) (more_prices (r refl))
+  steps None false true r = by_links None false true _ _ _ kept_links kept_times kept_prices
+  steps None false false r = by_links None false false _ _ _ kept_links kept_times kept_prices
+  steps (Some i) true true r = by_links (Some i) true true _ _ _ more_links (more_times (r refl)) (more_prices (r refl))
+  steps (Some i) true false r = by_links (Some i) true false _ _ _ more_links (more_times (r refl)) (more_prices (r refl))
+  steps (Some i) false true r = by_links (Some i) false true _ _ _ kept_links kept_times kept_prices
+  steps (Some i) false false r = by_links (Some i) false false _ _ _ kept_links kept_times kept_prices
 
   abbrev c : Candidates
   c = candidates_of s

@@ -1,9 +1,8 @@
 -- The slot that a print fills is the one that a division finds.
-use Rattle.std.specs.Prelude.{if◌then◌else◌}
+use Rattle.std.specs.Prelude.{if◌then◌else◌, Option, None, Some}
 use Prim.Native.Nat.{ℕ, ◌+◌, ◌*◌, ◌/◌, ◌%◌, ◌≤◌, ◌<◌}
 use mathlib.Core.Path.{◌≡◌, refl, sym, ap, ◌∙◌}
 use mathlib.Core.Bool.{Bool, true, false, not, ◌&&◌}
-use mathlib.Core.Option.{Option, none, some}
 use native.Mathlib.Omega.{arith}
 use native.Mathlib.Nat.{div-add-mod', mod-lt, div-lt_iff_lt-mul}
 use borrow.Author.Tests.{ltb-true, ltb-false, leb-true, leb-false, eqb-true, lt-ltb}
@@ -21,8 +20,6 @@ use Rattle.rules.proofs.Integers.{up, dn, sum_law, difference_law, lt_yes, yes_l
 use Rattle.rules.proofs.Sums.{find_some}
 use Rattle.rules.proofs.Slot.{slot_before, slot_past, slot_at_lem}
 use Rattle.numbers.specs.Times.{gap_of}
-use Rattle.numbers.specs.declared.time.Gap.{Gap}
-use Rattle.numbers.specs.declared.time.Gap.TheVariants as G
 use Rattle.core_uses.specs.Uses.{slot_at, slot_since, slot_ahead, slot_in}
 use Rattle.core_take.specs.Placing.{slot_use, fillable}
 use Rattle.numbers.proofs.Times.{gap_is, behind_is}
@@ -37,8 +34,8 @@ module _ (t : Terms) (E : ℤ) (c : Candidates) (p : Print) (g : good_terms t �
       free i = canonical t E i p && not (bit i c.bits)
 
       go : (f : Option ℕ) → find (slots t) free ≡ f → fillable c.bits f ≡ true
-      go none e = refl
-      go (some k) e =
+      go None e = refl
+      go (Some k) e =
           let (l, h) = find_some (slots t) free k e in
           let few = leb-true (slots t) 32 (every_at (terms_tests t) 3 g) in
           rw (lt-ltb k 32 (omega arith)) (both (canonical t E k p) (not (bit k c.bits)) h).1
@@ -50,11 +47,11 @@ module _ (t : Terms) (E : ℤ) (c : Candidates) (p : Print) (g : good_terms t �
   unfolding good_terms
   has_slot = ltb-true 0 t.slot (every_at (terms_tests t) 0 g)
 
-  module _ (offset : ℕ) (gap : G.Of offset ≡ gap_of start p.published) where
+  module _ (offset : ℕ) (gap : Some offset ≡ gap_of start p.published) where
     ahead : up p.published + dn start ≡ offset + up start + dn p.published
     ahead = gap_is start p.published offset gap
 
-    too_late : t.window ≤ offset → none ≡ slot_for t E c p
+    too_late : t.window ≤ offset → None ≡ slot_for t E c p
     too_late h = sym (slot_past t E c p (yes_le E p.published (omega (arith, ahead, difference_law E (pos t.window)))))
 
     module _ (within : offset < t.window) where
@@ -95,10 +92,10 @@ module _ (t : Terms) (E : ℤ) (c : Candidates) (p : Print) (g : good_terms t �
           go false e = no_le (p.published -ℤ b) (pos t.tolerance) (omega (arith, lies, leb-false late t.tolerance e, difference_law p.published b))
 
       -- the slot in whose time the print was published, where it is canonical for it and it is empty
-      by_canonical : (x : Bool) → canonical t E k p ≡ x → slot_for t E c p ≡ (if x && not (bit k c.bits) then some k else none)
+      by_canonical : (x : Bool) → canonical t E k p ≡ x → slot_for t E c p ≡ (if x && not (bit k c.bits) then Some k else None)
       by_canonical x e = slot_at_lem t E c p k has_place begun not_over ∙ rw e
 
-      no_new : G.Behind ≡ gap_of p.prev p.published → none ≡ slot_for t E c p
+      no_new : None ≡ gap_of p.prev p.published → None ≡ slot_for t E c p
       unfolding canonical
       no_new e = sym (by_canonical false not_canonical)
         where
@@ -108,7 +105,7 @@ module _ (t : Terms) (E : ℤ) (c : Candidates) (p : Print) (g : good_terms t �
           not_canonical : canonical t E k p ≡ false
           not_canonical = rw (begun, not_over, old) (and_false (le_z (p.published -ℤ b) (pos t.tolerance)))
 
-      at_slot : (back : ℕ) → G.Of back ≡ gap_of p.prev p.published → slot_at t.slot t.tolerance c.bits offset back ≡ slot_for t E c p
+      at_slot : (back : ℕ) → Some back ≡ gap_of p.prev p.published → slot_at t.slot t.tolerance c.bits offset back ≡ slot_for t E c p
       unfolding slot_at canonical
       at_slot back h = rw (lt-ltb 0 t.slot has_slot, lt-ltb k 32 one_of_32) (sym (by_canonical (leb late t.tolerance && ltb late back) is_canonical))
         where
@@ -122,15 +119,15 @@ module _ (t : Terms) (E : ℤ) (c : Candidates) (p : Print) (g : good_terms t �
           is_canonical : canonical t E k p ≡ leb late t.tolerance && ltb late back
           is_canonical = rw (begun, not_over, in_tolerance, new) (ap (λ (y : Bool). leb late t.tolerance && y) (and_true (ltb late back)))
 
-  by_gaps : (x y : Gap) → x ≡ gap_of start p.published → y ≡ gap_of p.prev p.published
+  by_gaps : (x y : Option ℕ) → x ≡ gap_of start p.published → y ≡ gap_of p.prev p.published
       → slot_ahead t.window t.slot t.tolerance c.bits x y ≡ slot_for t E c p
-  by_gaps G.Behind y ex ey = sym (slot_before t E c p (behind_is start p.published ex))
-  by_gaps (G.Of offset) y ex ey = go (ltb offset t.window) refl y ey
+  by_gaps None y ex ey = sym (slot_before t E c p (behind_is start p.published ex))
+  by_gaps (Some offset) y ex ey = go (ltb offset t.window) refl y ey
     where
-      go : (x : Bool) → ltb offset t.window ≡ x → (y : Gap) → y ≡ gap_of p.prev p.published
-          → (if x then slot_since t.slot t.tolerance c.bits offset y else none) ≡ slot_for t E c p
-      go true e (G.Of back) ey = at_slot offset ex (ltb-true offset t.window e) back ey
-      go true e G.Behind ey = no_new offset ex (ltb-true offset t.window e) ey
+      go : (x : Bool) → ltb offset t.window ≡ x → (y : Option ℕ) → y ≡ gap_of p.prev p.published
+          → (if x then slot_since t.slot t.tolerance c.bits offset y else None) ≡ slot_for t E c p
+      go true e (Some back) ey = at_slot offset ex (ltb-true offset t.window e) back ey
+      go true e None ey = no_new offset ex (ltb-true offset t.window e) ey
       go false e y ey = too_late offset ex (ltb-false offset t.window e)
 
   pub by_division : (r : Result (Option ℕ)) → r ≡ slot_in E t.window t.slot t.tolerance c.bits p.published p.prev → r ≡ slot_use t E c p

@@ -1,6 +1,5 @@
 -- The uses of a print one by one, and the parts after each.
-use Rattle.std.specs.Prelude.{ℕ, ◌+◌, ◌^◌, Bool, true, false, not, ◌&&◌, ◌||◌, set, ℤ, pos, ◌-ℤ◌, ltb, if◌then◌else◌}
-use Rattle.std.proofs.Math.Option.{Option, none, some}
+use Rattle.std.specs.Prelude.{ℕ, ◌+◌, ◌^◌, Bool, true, false, not, ◌&&◌, ◌||◌, set, ℤ, pos, ◌-ℤ◌, ltb, if◌then◌else◌, Option, None, Some}
 use Rattle.rules.specs.Log.{is_some, maybe, size}
 use Rattle.rules.specs.Bytes.{fits}
 use Rattle.rules.specs.Answers.{Result, ok, refused}
@@ -8,14 +7,6 @@ use Rattle.rules.specs.Terms.{Terms}
 use Rattle.rules.specs.Prints.{Print}
 use Rattle.rules.specs.Taking.{Candidates, bit, slot_for, is_link, is_fallback}
 use Rattle.rules.specs.State.{Parts}
-use Rattle.numbers.specs.Wides.{wide_of}
-use Rattle.numbers.specs.declared.wide.Sum.{Sum}
-use Rattle.numbers.specs.declared.wide.Sum.TheVariants as W
-
--- a sum, where it fits
-abbrev pub total_of : Sum → Option ℕ
-total_of (W.Of w) = some (wide_of w)
-total_of W.Overflow = none
 
 -- ---- the uses
 
@@ -25,7 +16,7 @@ slot_use t E c p = if fits (E -ℤ pos t.window) then ok (slot_for t E c p) else
 
 -- the link that a print is
 unfoldable pub link_use : Terms → ℤ → Candidates → Print → Option ℕ
-link_use t E c p = if is_link t E c p then some (size c.times) else none
+link_use t E c p = if is_link t E c p then Some (size c.times) else None
 
 -- whether a print is the new fallback, where the lookback's start fits
 unfoldable pub fallback_use : Terms → ℤ → Candidates → Print → Result Bool
@@ -33,7 +24,7 @@ fallback_use t E c p = if fits (E -ℤ pos t.lookback) then ok (is_fallback t E 
 
 -- the sum of the slots' prices after a print, where it fits 128 bits
 unfoldable pub total_after : ℕ → Option ℕ → ℕ → Option ℕ
-total_after sum slot price = if not (is_some slot) || ltb (sum + price) (2 ^ 128) then some (maybe sum (λ i. sum + price) slot) else none
+total_after sum slot price = if not (is_some slot) || ltb (sum + price) (2 ^ 128) then Some (maybe sum (λ i. sum + price) slot) else None
 
 -- ---- what a use needs
 
@@ -48,8 +39,8 @@ linkable link = maybe true (λ i. ltb i 5) link
 -- ---- the parts after a use
 
 abbrev pub with_slot : Option ℕ → ℕ → ℤ → Parts → Parts
-with_slot none sum now s = s
-with_slot (some i) sum now s =
+with_slot None sum now s = s
+with_slot (Some i) sum now s =
     record {
       bits = s.bits + 2 ^ i;
       sum = sum;
@@ -64,8 +55,8 @@ with_slot (some i) sum now s =
     }
 
 abbrev pub with_link : Option ℕ → Print → ℤ → Parts → Parts
-with_link none p now s = s
-with_link (some i) p now s =
+with_link None p now s = s
+with_link (Some i) p now s =
     record {
       bits = s.bits;
       sum = s.sum;

@@ -1,11 +1,10 @@
 -- The oracle terms, read as the rules' terms.
-use Rattle.std.specs.Prelude.{ℕ, ℤ}
+use Rattle.std.specs.Prelude.{ℕ, ℤ, Result}
 use Rattle.rules.specs.Answers as R
 use Rattle.rules.specs.Terms.{Terms}
-use Rattle.core_terms.specs.Errors.{number_of}
+use Rattle.core_terms.specs.Errors.{answered}
+use Rattle.core_terms.specs.declared.error.CoreError.{CoreError}
 use Rattle.core_terms.specs.declared.params.OracleParams.{OracleParams}
-use Rattle.core_terms.specs.declared.params.ParamsResult.{ParamsResult}
-use Rattle.core_terms.specs.declared.params.ParamsResult.TheVariants as P
 
 abbrev pub given : ℕ → ℕ → ℕ → ℕ → ℕ → ℕ → ℕ → ℕ → ℤ → Terms
 given window slot tolerance minimum k delay lookback hard exponent =
@@ -26,6 +25,5 @@ terms_of p =
     given p.window_s p.slot_s p.slot_tolerance_s p.min_samples p.k_next_print
     p.challenge_delay_s p.fallback_lookback_s p.hard_deadline_s p.expo
 
-abbrev pub params_of : ParamsResult → R.Result Terms
-params_of (P.Ok p) = R.ok (terms_of p)
-params_of (P.Err e) = R.refused (number_of e)
+abbrev pub params_of : Result OracleParams CoreError → R.Result Terms
+params_of = answered terms_of

@@ -30,12 +30,6 @@ pub struct OracleParams {
     pub expo: i8,
 }
 
-#[derive(Clone, Copy)]
-pub enum ParamsResult {
-    Ok(OracleParams),
-    Err(CoreError),
-}
-
 // The window's slots.
 fn good_window(p: OracleParams) -> bool
     ensures { result ≡ every (take 5 (terms_tests (terms_of p))) }
@@ -121,24 +115,24 @@ impl OracleParams {
         fallback_lookback_s: u32,
         hard_deadline_s: u32,
         expo: i8,
-    ) -> ParamsResult
+    ) -> Result<OracleParams, CoreError>
         ensures { params_of result ≡ new_terms (given window_s slot_s slot_tolerance_s min_samples k_next_print challenge_delay_s fallback_lookback_s hard_deadline_s expo) }
     {
         let p = OracleParams {
-            window_s: window_s,
-            slot_s: slot_s,
-            slot_tolerance_s: slot_tolerance_s,
-            min_samples: min_samples,
-            k_next_print: k_next_print,
-            challenge_delay_s: challenge_delay_s,
-            fallback_lookback_s: fallback_lookback_s,
-            hard_deadline_s: hard_deadline_s,
-            expo: expo,
+            window_s,
+            slot_s,
+            slot_tolerance_s,
+            min_samples,
+            k_next_print,
+            challenge_delay_s,
+            fallback_lookback_s,
+            hard_deadline_s,
+            expo,
         };
         if !p.in_range() {
-            return ParamsResult::Err(CoreError::InvalidOracleParams);
+            return Err(CoreError::InvalidOracleParams);
         }
-        ParamsResult::Ok(p)
+        Ok(p)
     }
 
     pub fn window_s(self) -> u32

@@ -1,85 +1,85 @@
-// How many answers were replayed and how many differ, and what is printed of it. A tally is one
-// array, which is lent: for each tag the answers and those of them that differ, then the numbers at
-// the places below.
-ghost use Rattle.std.specs.Prelude.{◌<◌};
+// How many answers of each call were replayed and how many differ, and what is printed of it.
+ghost use Rattle.std.specs.Prelude.{codes};
 
+use crate::replay;
+use samples::compared::Compared;
+use samples::replay::{Trial, bytes};
 use std::io;
-use std::io::Write;
+use std::io::{ErrorKind, Read, Write};
 
-pub(crate) const PLACES: usize = 20;
+#[derive(Clone, Copy)]
+pub(crate) struct Tally {
+    mean: Compared,
+    accept: Compared,
+    restore: Compared,
+    add_print: Compared,
+    decide: Compared,
+    params: Compared,
+    print: Compared,
+    method: Compared,
+    // The number of the record at hand, from 1.
+    pub(crate) number: u32,
+    // The first record that differs.
+    first: Option<u32>,
+}
 
-// The number of the record at hand, from 1.
-pub(crate) const RECORD: usize = 18;
+impl Trial for Tally {
+    ghost MARK = { codes "LFCORE02" };
 
-// The number of the first record that differs; 0 for none.
-const FIRST: usize = 19;
+    const MARK: [u8; 8] = *b"LFCORE02";
 
-fn count(t: &mut [u64; PLACES], at: usize)
-    requires { at < 20 }
-{
-    let n = t[at];
-    if n < u64::MAX {
-        t[at] = n + 1;
+    ghost number = { λ t. t.number };
+
+    // A record is the number of a call, what the call was given and what it answered.
+    fn next<R: Read>(&mut self, reader: &mut R, n: u32) -> io::Result<()> {
+        self.number = n;
+        let [call] = bytes::<1, R>(reader)?;
+        let is_same = match call {
+            1 => self.mean.count(replay::mean(&bytes(reader)?)),
+            2 => self.accept.count(replay::accept(&bytes(reader)?)),
+            3 => self.restore.count(replay::restore(&bytes(reader)?)),
+            4 => self.add_print.count(replay::add_print(&bytes(reader)?)),
+            5 => self.decide.count(replay::decide(&bytes(reader)?)),
+            6 => self.params.count(replay::params(&bytes(reader)?)),
+            7 => self.print.count(replay::print(&bytes(reader)?)),
+            8 => self.method.count(replay::method(&bytes(reader)?)),
+            _ => return Err(ErrorKind::InvalidData.into()),
+        };
+        if !is_same {
+            self.first = self.first.or(Some(n));
+        }
+        Ok(())
     }
 }
 
-pub(crate) fn answer(t: &mut [u64; PLACES], tag: u8, is_same: bool) {
-    if 8 < tag {
-        return;
+impl Tally {
+    pub(crate) fn new() -> Tally {
+        Tally {
+            mean: Compared::new(),
+            accept: Compared::new(),
+            restore: Compared::new(),
+            add_print: Compared::new(),
+            decide: Compared::new(),
+            params: Compared::new(),
+            print: Compared::new(),
+            method: Compared::new(),
+            number: 0,
+            first: None,
+        }
     }
-    let at = tag as usize * 2;
-    count(t, at);
-    if is_same {
-        return;
-    }
-    count(t, at + 1);
-    if t[FIRST] == 0 {
-        t[FIRST] = t[RECORD];
-    }
-}
 
-// Writes a byte, or for # the number at this place, and answers the place whose number is next.
-fn put<W: Write>(out: &mut W, byte: u8, t: &[u64; PLACES], at: usize) -> io::Result<usize> {
-    if byte != b'#' {
-        let one = [byte];
-        out.write_all(&one)?;
-        return Ok(at);
+    pub(crate) fn print<W: Write>(&self, out: &mut W) -> io::Result<()> {
+        writeln!(out, "mean {}", self.mean)?;
+        writeln!(out, "accept {}", self.accept)?;
+        writeln!(out, "restore {}", self.restore)?;
+        writeln!(out, "add_print {}", self.add_print)?;
+        writeln!(out, "decide {}", self.decide)?;
+        writeln!(out, "params {}", self.params)?;
+        writeln!(out, "print {}", self.print)?;
+        writeln!(out, "method {}", self.method)?;
+        if let Some(first) = self.first {
+            writeln!(out, "the first that differs is record {first}")?;
+        }
+        Ok(())
     }
-    if PLACES <= at {
-        return Ok(at);
-    }
-    let n = t[at];
-    write!(out, "{n}")?;
-    Ok(at + 1)
-}
-
-// Writes a text, each # in it as one of the numbers from this place on.
-pub(crate) fn print<W: Write>(
-    out: &mut W,
-    text: &[u8],
-    t: &[u64; PLACES],
-    first: usize,
-) -> io::Result<()> {
-    let mut at = first;
-    let mut i: usize = 0;
-    while i < text.len() {
-        at = put(out, text[i], t, at)?;
-        i += 1;
-    }
-    Ok(())
-}
-
-pub(crate) fn print_all<W: Write>(out: &mut W, t: &[u64; PLACES]) -> io::Result<()> {
-    print(
-        out,
-        b"mean # different #\naccept # different #\nrestore # different #\n\
-          add_print # different #\ndecide # different #\nparams # different #\n\
-          print # different #\nmethod # different #\n",
-        t,
-        2,
-    )?;
-    if t[FIRST] != 0 {
-        print(out, b"the first that differs is record #\n", t, FIRST)?;
-    }
-    Ok(())
 }

@@ -1,2 +1,3 @@
 pub mod Little
+pub mod Offsets
 pub mod TwosComplement

@@ -1,22 +1,21 @@
--- The number in n bytes by their places.
-use Prim.Native.Nat.{ℕ, zero, suc, ◌+◌, ◌*◌}
-use mathlib.Core.Path.{◌≡◌, refl, ap, ◌∙◌}
-use mathlib.Core.List.{List, [], ◌∷◌}
-use native.Mathlib.Omega.{arith}
-use lib.ListN.{length, get_or}
-use Rattle.rules.specs.Bytes.{little}
+-- The library's bytes of a number are the rules'.
+use Prim.Native.Nat.{ℕ, zero, suc, ◌/◌, ◌%◌, ◌^◌}
+use mathlib.Core.Path.{◌≡◌, refl, sym, ap, ◌∙◌}
+use mathlib.Core.List.{List, ◌∷◌}
+use native.Mathlib.Nat.{div-one, pow-suc, div-div-eq-div-mul}
+use Rattle.std.specs.Int.{byte_at, bytes_low_first}
+use Rattle.rules.specs.Bytes.{bytes}
 
--- the bytes of l from place i on, n of them
-abbrev pub placed : ℕ → List ℕ → ℕ → ℕ
-placed zero l i = 0
-placed (suc n) l i = get_or l i 0 + 256 * placed n l (suc i)
+byte_is : (i n : ℕ) → byte_at i n ≡ n / 256 ^ i % 256
+byte_is zero n = ap (λ (m : ℕ). m % 256) (sym (div-one n))
+byte_is (suc i) n = refl
 
-placed_next : (n x : ℕ) (l : List ℕ) (i : ℕ) → placed n (x ∷ l) (suc i) ≡ placed n l i
-placed_next zero x l i = refl
-placed_next (suc n) x l i = ap (λ (m : ℕ). get_or l i 0 + 256 * m) (placed_next n x l (suc i))
+low_first : (i k n : ℕ) → bytes_low_first i k n ≡ bytes k (n / 256 ^ i)
+unfolding bytes
+low_first i zero n = refl
+low_first i (suc k) n =
+    let e : n / 256 ^ i / 256 ≡ n / 256 ^ suc i = div-div-eq-div-mul n (256 ^ i) 256 ∙ ap (λ (m : ℕ). n / m) (sym (pow-suc 256 i)) in
+    λ j. byte_is i n j ∷ (low_first (suc i) k n ∙ ap (bytes k) (sym e)) j
 
-pub little_is : (n : ℕ) (l : List ℕ) → length l ≡ n → placed n l 0 ≡ little l
-little_is zero [] e = refl
-little_is zero (x ∷ l) e = absurd (omega arith)
-little_is (suc n) [] e = absurd (omega arith)
-little_is (suc n) (x ∷ l) e = ap (λ (m : ℕ). x + 256 * m) (placed_next n x l 0 ∙ little_is n l (omega arith))
+pub written_is : (k n : ℕ) {r : List ℕ} → r ≡ bytes_low_first 0 k n → r ≡ bytes k n
+written_is k n e = e ∙ low_first 0 k n ∙ ap (bytes k) (div-one n)

@@ -2,118 +2,249 @@
 // Every function is total: any crate may call it.
 #![tactic(auto)]
 
-ghost use Rattle.std.specs.Prelude.{◌≡◌, ◌+◌, ◌*◌, ◌^◌, ◌<◌};
-ghost use Rattle.rules.specs.Bytes.{little, signed, bytes, word};
+ghost use Rattle.std.specs.Prelude.{◌≡◌, ℕ, List, length, drop, ◌<◌, ◌≤◌, refl};
+ghost use Rattle.std.proofs.Common.{arith};
+ghost use Rattle.rules.specs.Bytes.{little, signed, word, bytes, unsigned_at, signed_at};
 
-// ---- reading
-
-// The number of two bytes and of those above them.
-fn pair(low: u8, high: u8, above: u64) -> u64
-    requires { above < 2 ^ 48 }
-    ensures { (result ≡ low + 256 * (high + 256 * above)) × (result < 65536 * (above + 1)) }
+// The bytes from an offset on: none behind the end.
+fn from(bytes: &[u8], at: usize) -> &[u8]
+    ensures { result.now ≡ drop at bytes.now }
 {
-    (low as u64) + 256 * ((high as u64) + 256 * above)
+    bytes.get(at..).unwrap_or(&[])
 }
 
-pub fn u16_from_le(b: [u8; 2]) -> u16
-    ensures { result ≡ little b }
+// Fewer than N bytes, with zeros above them.
+#[tactic(auto, using(crate::proofs::Offsets::little_padded))]
+fn padded<const N: usize>(left: &[u8]) -> [u8; N]
+    requires few { length left.now < N }
+    requires small { N ≤ 16 }
+    ensures { little result ≡ little left.now }
 {
-    pair(b[0], b[1], 0) as u16
+    let mut all = [0; N];
+    all[..left.len()].copy_from_slice(left);
+    all
 }
 
-pub fn u32_from_le(b: [u8; 4]) -> u32
-    ensures { result ≡ little b }
-{
-    pair(b[0], b[1], pair(b[2], b[3], 0)) as u32
-}
+// A number of N bytes, the low one first.
+pub trait LittleEndian<const N: usize>: Sized {
+    // the number with these bits, and the bits of a number
+    ghost of_bits: { ℕ → Self };
 
-pub fn u64_from_le(b: [u8; 8]) -> u64
-    ensures { result ≡ little b }
-{
-    let upper = pair(b[4], b[5], pair(b[6], b[7], 0));
-    pair(b[0], b[1], pair(b[2], b[3], upper))
-}
+    ghost bits: { Self → ℕ };
 
-// ---- writing
+    // the number in the N bytes from an offset on
+    ghost standing: { List ℕ → ℕ → Self };
 
-pub fn u16_to_le(x: u16) -> [u8; 2]
-    ensures { result ≡ bytes 2 x }
-{
-    [(x % 256) as u8, (x / 256 % 256) as u8]
-}
+    fn from_bytes(b: [u8; N]) -> Self
+        ensures { result ≡ of_bits (little b.entry) };
 
-pub fn u32_to_le(x: u32) -> [u8; 4]
-    ensures { result ≡ bytes 4 x }
-{
-    let x1 = x / 256;
-    let x2 = x1 / 256;
-    let x3 = x2 / 256;
-    [
-        (x % 256) as u8,
-        (x1 % 256) as u8,
-        (x2 % 256) as u8,
-        (x3 % 256) as u8,
-    ]
-}
+    fn to_bytes(self) -> [u8; N]
+        ensures { result ≡ bytes N (bits self) };
 
-pub fn u64_to_le(x: u64) -> [u8; 8]
-    ensures { result ≡ bytes 8 x }
-{
-    let x1 = x / 256;
-    let x2 = x1 / 256;
-    let x3 = x2 / 256;
-    let x4 = x3 / 256;
-    let x5 = x4 / 256;
-    let x6 = x5 / 256;
-    let x7 = x6 / 256;
-    [
-        (x % 256) as u8,
-        (x1 % 256) as u8,
-        (x2 % 256) as u8,
-        (x3 % 256) as u8,
-        (x4 % 256) as u8,
-        (x5 % 256) as u8,
-        (x6 % 256) as u8,
-        (x7 % 256) as u8,
-    ]
-}
-
-// ---- two's complement
-
-pub fn i8_from_bits(x: u8) -> i8
-    ensures { result ≡ signed 8 x }
-{
-    if x < 128 { x as i8 } else { !((!x) as i8) }
-}
-
-pub fn i32_from_bits(x: u32) -> i32
-    ensures { result ≡ signed 32 x }
-{
-    if x < 0x8000_0000 {
-        x as i32
-    } else {
-        !((!x) as i32)
+    // The number at any offset of any bytes. Where bytes are missing, those that are there are read.
+    #[tactic(auto, using(crate::proofs::Offsets::whole_at, crate::proofs::Offsets::short_at))]
+    final fn read(bytes: &[u8], at: usize) -> Self
+        ensures { result ≡ standing bytes.now at }
+    {
+        let left = from(bytes, at);
+        match left.first_chunk() {
+            Some(all) => Self::from_bytes(*all),
+            None => Self::from_bytes(padded(left)),
+        }
     }
+
+    // an array of N bytes is not too large for memory
+    ghost small: { N ≤ 16 };
+
+    ghost stands: { (bs : List ℕ) (at : ℕ) → standing bs at ≡ of_bits (unsigned_at bs at N) };
 }
 
-pub fn i64_from_bits(x: u64) -> i64
-    ensures { result ≡ signed 64 x }
-{
-    if x < 0x8000_0000_0000_0000 {
-        x as i64
-    } else {
-        !((!x) as i64)
+// The check doesn't take over the trait's clause on an array passed by value, so each `from_bytes`
+// has its own, from which the trait's is proved.
+
+impl LittleEndian<1> for u8 {
+    ghost of_bits = { λ n. n };
+
+    ghost bits = { λ x. x };
+
+    ghost standing = { λ bs at. unsigned_at bs at 1 };
+
+    fn from_bytes(b: [u8; 1]) -> u8
+        ensures { result ≡ little b }
+    {
+        u8::from_le_bytes(b)
     }
+
+    #[tactic(auto, using(crate::proofs::Little::written_is))]
+    fn to_bytes(self) -> [u8; 1] {
+        u8::to_le_bytes(self)
+    }
+
+    ghost small = { Prim.omega arith };
+
+    ghost stands = { λ _ _. refl };
 }
 
-pub fn i8_to_bits(z: i8) -> u8
-    ensures { result ≡ word 8 z }
-{
-    if 0 <= z { z as u8 } else { !((!z) as u8) }
+impl LittleEndian<2> for u16 {
+    ghost of_bits = { λ n. n };
+
+    ghost bits = { λ x. x };
+
+    ghost standing = { λ bs at. unsigned_at bs at 2 };
+
+    fn from_bytes(b: [u8; 2]) -> u16
+        ensures { result ≡ little b }
+    {
+        u16::from_le_bytes(b)
+    }
+
+    #[tactic(auto, using(crate::proofs::Little::written_is))]
+    fn to_bytes(self) -> [u8; 2] {
+        u16::to_le_bytes(self)
+    }
+
+    ghost small = { Prim.omega arith };
+
+    ghost stands = { λ _ _. refl };
 }
 
-pub fn i64_to_bits(z: i64) -> u64
-    ensures { result ≡ word 64 z }
-{
-    if 0 <= z { z as u64 } else { !((!z) as u64) }
+impl LittleEndian<4> for u32 {
+    ghost of_bits = { λ n. n };
+
+    ghost bits = { λ x. x };
+
+    ghost standing = { λ bs at. unsigned_at bs at 4 };
+
+    fn from_bytes(b: [u8; 4]) -> u32
+        ensures { result ≡ little b }
+    {
+        u32::from_le_bytes(b)
+    }
+
+    #[tactic(auto, using(crate::proofs::Little::written_is))]
+    fn to_bytes(self) -> [u8; 4] {
+        u32::to_le_bytes(self)
+    }
+
+    ghost small = { Prim.omega arith };
+
+    ghost stands = { λ _ _. refl };
+}
+
+impl LittleEndian<8> for u64 {
+    ghost of_bits = { λ n. n };
+
+    ghost bits = { λ x. x };
+
+    ghost standing = { λ bs at. unsigned_at bs at 8 };
+
+    fn from_bytes(b: [u8; 8]) -> u64
+        ensures { result ≡ little b }
+    {
+        u64::from_le_bytes(b)
+    }
+
+    #[tactic(auto, using(crate::proofs::Little::written_is))]
+    fn to_bytes(self) -> [u8; 8] {
+        u64::to_le_bytes(self)
+    }
+
+    ghost small = { Prim.omega arith };
+
+    ghost stands = { λ _ _. refl };
+}
+
+impl LittleEndian<16> for u128 {
+    ghost of_bits = { λ n. n };
+
+    ghost bits = { λ x. x };
+
+    ghost standing = { λ bs at. unsigned_at bs at 16 };
+
+    fn from_bytes(b: [u8; 16]) -> u128
+        ensures { result ≡ little b }
+    {
+        u128::from_le_bytes(b)
+    }
+
+    #[tactic(auto, using(crate::proofs::Little::written_is))]
+    fn to_bytes(self) -> [u8; 16] {
+        u128::to_le_bytes(self)
+    }
+
+    ghost small = { Prim.omega arith };
+
+    ghost stands = { λ _ _. refl };
+}
+
+impl LittleEndian<1> for i8 {
+    ghost of_bits = { signed 8 };
+
+    ghost bits = { word 8 };
+
+    ghost standing = { λ bs at. signed_at bs at 1 };
+
+    #[tactic(auto, using(crate::proofs::TwosComplement::signed_came))]
+    fn from_bytes(b: [u8; 1]) -> i8
+        ensures { result ≡ signed 8 (little b) }
+    {
+        u8::from_bytes(b).cast_signed()
+    }
+
+    #[tactic(auto, using(crate::proofs::TwosComplement::word_is))]
+    fn to_bytes(self) -> [u8; 1] {
+        u8::to_bytes(self.cast_unsigned())
+    }
+
+    ghost small = { Prim.omega arith };
+
+    ghost stands = { λ _ _. unfold signed_at in refl };
+}
+
+impl LittleEndian<4> for i32 {
+    ghost of_bits = { signed 32 };
+
+    ghost bits = { word 32 };
+
+    ghost standing = { λ bs at. signed_at bs at 4 };
+
+    #[tactic(auto, using(crate::proofs::TwosComplement::signed_came))]
+    fn from_bytes(b: [u8; 4]) -> i32
+        ensures { result ≡ signed 32 (little b) }
+    {
+        u32::from_bytes(b).cast_signed()
+    }
+
+    #[tactic(auto, using(crate::proofs::TwosComplement::word_is))]
+    fn to_bytes(self) -> [u8; 4] {
+        u32::to_bytes(self.cast_unsigned())
+    }
+
+    ghost small = { Prim.omega arith };
+
+    ghost stands = { λ _ _. unfold signed_at in refl };
+}
+
+impl LittleEndian<8> for i64 {
+    ghost of_bits = { signed 64 };
+
+    ghost bits = { word 64 };
+
+    ghost standing = { λ bs at. signed_at bs at 8 };
+
+    #[tactic(auto, using(crate::proofs::TwosComplement::signed_came))]
+    fn from_bytes(b: [u8; 8]) -> i64
+        ensures { result ≡ signed 64 (little b) }
+    {
+        u64::from_bytes(b).cast_signed()
+    }
+
+    #[tactic(auto, using(crate::proofs::TwosComplement::word_is))]
+    fn to_bytes(self) -> [u8; 8] {
+        u64::to_bytes(self.cast_unsigned())
+    }
+
+    ghost small = { Prim.omega arith };
+
+    ghost stands = { λ _ _. unfold signed_at in refl };
 }

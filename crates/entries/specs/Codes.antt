@@ -1,6 +1,5 @@
 -- Answers as numbers.
-use Rattle.std.specs.Prelude.{ℕ, if◌then◌else◌}
-use Rattle.std.proofs.Math.Option.{Option}
+use Rattle.std.specs.Prelude.{ℕ, if◌then◌else◌, Option}
 use Rattle.rules.specs.Log.{maybe}
 use Rattle.rules.specs.Bytes.{word}
 use Rattle.rules.specs.Answers.{Result, ok, refused, number, Answer, Opened, Used, Wait, Settle, Done, Refused}

@@ -2,18 +2,17 @@
 // acceptance, 255 says that there is none.
 #![tactic(auto)]
 
-ghost use Rattle.std.specs.Prelude.{◌≡◌, ◌+◌, ◌*◌, ◌^◌, if◌then◌else◌};
+ghost use Rattle.std.specs.Prelude.{◌≡◌, ◌+◌, ◌*◌, ◌^◌};
+ghost use Rattle.rules.specs.Bytes.{word};
 ghost use Rattle.rules.specs.Mean.{mean};
 ghost use Rattle.rules.specs.Prints.{accept};
 ghost use Rattle.core_prices.specs.Prints.{print_result_of, quote_at};
 ghost use Rattle.rules.specs.Book.{answer_to, book_after};
-ghost use Rattle.core_uses.specs.Uses.{index_of};
 ghost use Rattle.entries.specs.Codes.{code_of, stored_price, stored_amount, place_code, answer_code, first_after, second_after, third_after};
 
 use answers::answer::Answer;
-use core_prices::mean::PriceResult;
-use core_prices::print::PrintResult;
-use core_take::take::Index;
+use core_prices::print::Print;
+use core_terms::error::CoreError;
 
 // The mean of count prices with this sum, stored in price.
 #[unsafe(no_mangle)]
@@ -27,21 +26,22 @@ pub extern "C" fn lanternfold_to_atoms(
     ensures { (result ≡ code_of (mean (sum_high * 2 ^ 64 + sum_low) count expo))
         × (price.new ≡ stored_price price.old (mean (sum_high * 2 ^ 64 + sum_low) count expo)) }
 {
-    match core_prices::mean::to_atoms(sum_low, sum_high, count, expo) {
-        PriceResult::Ok(p) => {
+    let sum = (sum_high as u128) * 0x1_0000_0000_0000_0000 + (sum_low as u128);
+    match core_prices::mean::to_atoms(sum, count, expo) {
+        Ok(p) => {
             *price = p.get();
             255
         }
-        PriceResult::Err(e) => e.number(),
+        Err(e) => e.number(),
     }
 }
 
-fn refusal(r: PrintResult) -> u8
+fn refusal(r: Result<Print, CoreError>) -> u8
     ensures { result ≡ code_of (print_result_of r) }
 {
     match r {
-        PrintResult::Ok(_) => 255,
-        PrintResult::Err(e) => e.number(),
+        Ok(_) => 255,
+        Err(e) => e.number(),
     }
 }
 
@@ -60,7 +60,7 @@ pub extern "C" fn lanternfold_accept_print(
     ensures { (result ≡ code_of (accept expo max_conf_bps (quote_at price conf exponent publish_time prev_publish_time)))
         × (amount.new ≡ stored_amount amount.old (accept expo max_conf_bps (quote_at price conf exponent publish_time prev_publish_time))) }
 {
-    let r = core_prices::print::accept_print(
+    let accepted = core_prices::print::accept_print(
         price,
         conf,
         exponent,
@@ -69,8 +69,8 @@ pub extern "C" fn lanternfold_accept_print(
         expo,
         max_conf_bps,
     );
-    let PrintResult::Ok(print) = r else {
-        return refusal(r);
+    let Ok(print) = accepted else {
+        return refusal(accepted);
     };
     *amount = print.price();
     255
@@ -79,19 +79,21 @@ pub extern "C" fn lanternfold_accept_print(
 // ---- one command on a book
 
 // A place, or 255 for none.
-fn place(i: Index) -> u64
-    ensures { result ≡ place_code (index_of i) }
+fn place(i: Option<u8>) -> u64
+    ensures { result ≡ place_code i }
 {
     match i {
-        Index::At(n) => n as u64,
-        Index::None => 255,
+        Some(n) => n as u64,
+        None => 255,
     }
 }
 
-fn one_if(b: bool) -> u64
-    ensures { result ≡ (if b then 1 else 0) }
+// A time in two's complement.
+#[tactic(auto, using(endian::proofs::TwosComplement::word_is))]
+fn bits(z: i64) -> u64
+    ensures { result ≡ word 64 z }
 {
-    if b { 1 } else { 0 }
+    z.cast_unsigned()
 }
 
 // Gives the entry to the book: a refusal's number, or 255 Opened, 254 Used, 253 Wait, 252 Settle,
@@ -114,15 +116,13 @@ pub extern "C" fn lanternfold_command(
     match commands::apply::apply(book, entry) {
         Answer::Opened => 255,
         Answer::Used(u) => {
-            let slot = u.slot;
-            let link = u.next_print;
-            *first = place(slot);
-            *second = place(link);
-            *third = one_if(u.fallback);
+            *first = place(u.slot);
+            *second = place(u.next_print);
+            *third = u.fallback as u64;
             254
         }
         Answer::Wait { until } => {
-            *first = endian::i64_to_bits(until);
+            *first = bits(until);
             253
         }
         Answer::Settle {
@@ -137,6 +137,6 @@ pub extern "C" fn lanternfold_command(
         }
         Answer::Void => 251,
         Answer::Done => 250,
-        Answer::Refused(n) => n,
+        Answer::Refused(r) => r.number(),
     }
 }

@@ -1,2 +1,3 @@
 pub mod Fixes
+pub mod Stored
 pub mod Waits

@@ -6,7 +6,7 @@ ghost use Rattle.rules.specs.Book.{record_at, replaced};
 ghost use Rattle.core_decide.specs.Decisions.{answer_of};
 ghost use Rattle.book.specs.Looks.{Allowed};
 
-use book::look::RECORD_SIZE;
+use book::look::{RECORD_SIZE, look};
 use core_decide::decide::Decision;
 use record_read::contents::read_contents;
 use record_store::store::write_fixed;
@@ -16,16 +16,14 @@ pub(crate) fn store_fixed(book: &mut [u8], series: u8, outcome: Decision, fixing
     requires { Allowed book.old series }
     ensures { book.new ≡ replaced series (fixed_record voted (opening_in (record_at series book.old)) (parts_in (record_at series book.old)) (prices_in (record_at series book.old)) (answer_of outcome) fixing_time) book.old }
 {
+    let c = read_contents(look(&book[..], series));
     let at = series as usize * RECORD_SIZE;
-    let end = at + RECORD_SIZE;
-    let c = read_contents(&book[at..end]);
-    let state = c.state;
     write_fixed(
-        &mut book[at..end],
+        &mut book[at..at + RECORD_SIZE],
         c.params,
         c.max_conf_bps,
         c.expiry,
-        state,
+        c.state,
         outcome,
         fixing_time,
     );

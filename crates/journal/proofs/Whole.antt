@@ -1,5 +1,5 @@
 -- A whole journal.
-use Rattle.std.specs.Prelude.{if◌then◌else◌}
+use Rattle.std.specs.Prelude.{if◌then◌else◌, Some, None}
 use Prim.Native.Nat.{ℕ, zero, suc, ◌≤◌}
 use mathlib.Core.Path.{◌≡◌, refl, ap}
 use mathlib.Core.Bool.{Bool, true, false}
@@ -8,7 +8,7 @@ use native.Mathlib.Omega.{arith}
 use lib.Dec.{leb, eqb}
 use lib.ListN.{length, take, drop, drop_of_length-le}
 use lib.Seq.{take_all}
-use borrow.Author.Tests.{lt-ltb, le-ltb, leb-false, eqb-true, eqb-false, ne_eqb}
+use borrow.Author.Tests.{lt-ltb, le-ltb, leb-false, eqb-true, eqb-false}
 use Rattle.rules.specs.Log.{Log, ε, ◌▹◌, puts, all}
 use Rattle.rules.specs.Bytes.{Bytes, are_bytes}
 use Rattle.rules.specs.Entries.{width}
@@ -47,17 +47,14 @@ whole_in (suc n) (b ∷ bs) = go (leb (width b) (length (b ∷ bs))) refl (whole
     ending false p on = rw (lt-ltb 1 (width b) (omega (arith, (wide b).some, eqb-false (width b) 1 p))) on
 
     go : (t : Bool) → leb (width b) (length j) ≡ t → entries_in true n (drop (width b) j) ≡ commands_in n (drop (width b) j)
-        → (let w = (if t then width b else length j) in if eqb w 0 then [] else take w j ∷ (if ends w then [] else entries_in true n (drop w j)))
+        → (elim (if t then Some (width b) else Some (length j)) [ None ↦ [] | Some w ↦ take w j ∷ (if ends w then [] else entries_in true n (drop w j)) ])
         ≡ take (width b) j ∷ (if is_known b then commands_in n (drop (width b) j) else [])
-    go true e on =
-        let h = (wide b).some in
-        rw (ne_eqb (width b) 0 (λ p. omega arith)) (ap (take (width b) j ∷◌) (ending (eqb (width b) 1) refl on))
+    go true e on = ap (take (width b) j ∷◌) (ending (eqb (width b) 1) refl on)
     go false e on =
         let h = leb-false (width b) (length j) e in
         let short : length j ≤ width b = omega arith in
         let same : length j ≤ length j = omega arith in
         rw (
-          ne_eqb (length j) 0 (λ p. omega arith),
           take_all (width b) j short,
           take_all (length j) j same,
           drop_of_length-le j {i = width b} short,

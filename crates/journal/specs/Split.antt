@@ -1,14 +1,14 @@
 -- A journal may come in parts. A command may be cut by the end of a part, and only the last part has a short tail.
-use Rattle.std.specs.Prelude.{ℕ, zero, suc, Bool, List, [], ◌∷◌, length, take, drop, leb, eqb, if◌then◌else◌}
+use Rattle.std.specs.Prelude.{ℕ, zero, suc, Bool, Option, Some, None, List, [], ◌∷◌, length, take, drop, leb, eqb, if◌then◌else◌}
 use Rattle.rules.specs.Bytes.{Bytes}
 use Rattle.rules.specs.Entries.{width}
 
--- the bytes of the first entry of a part, 0 for none
-unfoldable pub first_width : Bool → Bytes → ℕ
-first_width last [] = 0
+-- the bytes of the first entry of a part, if it has one
+unfoldable pub first_width : Bool → Bytes → Option ℕ
+first_width last [] = None
 first_width last (b ∷ bs) =
     let j = b ∷ bs in
-    if leb (width b) (length j) then width b else if last then length j else 0
+    if leb (width b) (length j) then Some (width b) else if last then Some (length j) else None
 
 -- no command has one byte: it is an unknown one, or a short tail, and no entry follows it
 abbrev pub ends : ℕ → Bool
@@ -18,8 +18,7 @@ ends w = eqb w 1
 unfoldable pub entries_in : Bool → ℕ → Bytes → List Bytes
 entries_in last zero j = []
 entries_in last (suc n) j =
-    let w = first_width last j in
-    if eqb w 0 then [] else take w j ∷ (if ends w then [] else entries_in last n (drop w j))
+    elim (first_width last j) [ None ↦ [] | Some w ↦ take w j ∷ (if ends w then [] else entries_in last n (drop w j)) ]
 
 abbrev pub entries_at : Bool → Bytes → List Bytes
 entries_at last j = entries_in last (length j) j

@@ -20,11 +20,15 @@ pub struct Fed {
     pub ended: bool,
 }
 
-// An entry's second byte.
+// An entry's second byte, 0 for none.
+#[tactic(auto, using(crate::proofs::Series::series_none, crate::proofs::Series::series_some))]
 fn series_of(entry: &[u8]) -> u8
     ensures { result ≡ unsigned_at entry.now 1 1 }
 {
-    if entry.len() < 2 { 0 } else { entry[1] }
+    let [_, series, ..] = entry else {
+        return 0;
+    };
+    *series
 }
 
 // Gives an entry to the book, and writes its line from the index at on. Answers where it ends.
@@ -48,31 +52,20 @@ pub fn feed(book: &mut [u8], part: &[u8], last: bool, out: &mut [u8]) -> Fed
         × (out.new ≡ sets out.old 0 (lines_from book.old es))
         × (short book.old es ≡ true) }
 {
-    let mut at: usize = 0;
-    let mut written: usize = 0;
-    while LINE_MAX <= out.len() - written {
-        let width = first_width(&part[at..], last);
-        if width == 0 {
-            return Fed {
-                taken: at,
-                written: written,
-                ended: false,
-            };
-        }
-        let end = at + width;
-        written = give(book, &part[at..end], out, written);
-        at = end;
-        if width == 1 {
-            return Fed {
-                taken: at,
-                written: written,
-                ended: true,
-            };
-        }
-    }
-    Fed {
-        taken: at,
-        written: written,
+    let mut fed = Fed {
+        taken: 0,
+        written: 0,
         ended: false,
+    };
+    // No `for`: how far a turn goes is the width of its entry.
+    while !fed.ended && LINE_MAX <= out.len() - fed.written {
+        let Some(width) = first_width(&part[fed.taken..], last) else {
+            break;
+        };
+        let end = fed.taken + width;
+        fed.written = give(book, &part[fed.taken..end], out, fed.written);
+        fed.taken = end;
+        fed.ended = width == 1;
     }
+    fed
 }

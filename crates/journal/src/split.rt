@@ -16,16 +16,17 @@ fn width(byte: u8) -> usize
     }
 }
 
-// The bytes of the first entry of a journal's part, 0 for none. Only the last part has a short tail.
-pub fn first_width(part: &[u8], last: bool) -> usize
+// The bytes of the first entry of a journal's part, if it has one. Only the last part has a short
+// tail.
+pub fn first_width(part: &[u8], last: bool) -> Option<usize>
     ensures { result ≡ first_width last part.now }
 {
-    if part.len() == 0 {
-        return 0;
-    }
-    let w = width(part[0]);
+    let [first, ..] = part else {
+        return None;
+    };
+    let w = width(*first);
     if w <= part.len() {
-        return w;
+        return Some(w);
     }
-    if last { part.len() } else { 0 }
+    if last { Some(part.len()) } else { None }
 }

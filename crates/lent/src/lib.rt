@@ -8,10 +8,11 @@ ghost use Rattle.core_prices.specs.Prints.{print_of};
 ghost use Rattle.metalbook_core.specs.States.{state_of};
 ghost use Rattle.core_take.specs.Uses.{used_of};
 
+use metalbook_core::error::CoreError;
 use metalbook_core::settlement::params::OracleParams;
 use metalbook_core::settlement::print::Print;
 use metalbook_core::settlement::state::SettlementState;
-use metalbook_core::settlement::take::{Added, PrintUseResult};
+use metalbook_core::settlement::take::{Added, PrintUse};
 use metalbook_core::units::UnixTimestamp;
 
 // Takes a print, with the core's answer. A refusal leaves the state as it was.
@@ -21,7 +22,7 @@ pub fn add_print(
     expiry: UnixTimestamp,
     print: Print,
     now: i64,
-) -> PrintUseResult
+) -> Result<PrintUse, CoreError>
     ensures { (used_of result ≡ add_print_call (terms_of params) expiry.0 (state_of state.old) (print_of print))
         × (state_of state.new ≡ add_print_state (terms_of params) expiry.0 (state_of state.old) (print_of print) now) }
 {
@@ -44,8 +45,5 @@ pub fn add_through(
 {
     let mut s = state;
     let result = add_print(&mut s, params, expiry, print, now);
-    Added {
-        result: result,
-        state: s,
-    }
+    Added { result, state: s }
 }

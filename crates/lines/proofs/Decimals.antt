@@ -1,83 +1,52 @@
--- Numbers in decimal: the last digit and those ahead of it, and how many there are.
-use Rattle.std.specs.Prelude.{if◌then◌else◌}
-use Prim.Native.Nat.{ℕ, zero, suc, ◌+◌, ◌-◌, ◌/◌, ◌%◌, ◌^◌, ◌≤◌, ◌<◌}
-use mathlib.Core.Path.{◌≡◌, refl, sym, ap, ◌∙◌}
+-- Numbers in decimal: the rules' text is the library's, which `itoa` writes.
+use Prim.Native.Nat.{ℕ, suc, ◌+◌, ◌^◌, ◌≤◌, ◌<◌}
+use mathlib.Core.Path.{◌≡◌, refl, sym}
 use mathlib.Core.Bool.{Bool, true, false}
-use mathlib.Core.List.{[], ◌∷◌, ◌++◌}
+use mathlib.Core.List.{◌∷◌}
 use native.Mathlib.Omega.{arith}
-use native.Mathlib.Nat.{pow-suc}
-use borrow.Author.Tests.{ltb-true, ltb-false, lt-ltb, le-ltb}
-use lib.Dec.{T, ltb}
-use lib.ListN.{length, set, length-append}
-use lib.Seq.{sets}
+use borrow.Author.Tests.{lt-ltb, le-ltb}
+use lib.Dec.{T}
 use lib.IntN.{ℤ, pos, negsuc, nat_abs, ◌-ℤ◌}
+use lib.ListN.{length}
 use lib.Signed.{le_z, non_neg}
 use mir.Syntax.{w64}
 use mir.Val.{Fits, SFits, bool_byte, to_z, of_z}
+use Rattle.std.proofs.Common.{unsigned_abs}
+use Rattle.std.specs.Fmt as library
+use Rattle.std.proofs.lemmas.Fmt.{AppendsLastDigit, decimal_from_appends, length-decimal-le, length-decimal-le_succ}
 use mir.Facts.{to_z-of_z}
-use Rattle.rules.specs.Bytes.{Bytes}
 use Rattle.rules.specs.Lines.{digits, decimal, signed_decimal, flag}
 use Rattle.rules.proofs.Integers.{apart, difference_law, le_yes, le_no, abs_is}
 use Rattle.numbers.proofs.Ranges.{in_64, fits_64, cast_64}
-use Rattle.lines.proofs.Lines.{sets_last}
 
--- the count of places does not matter where there are enough
-digits_same : (f g n : ℕ) → n < f → n < g → digits f n ≡ digits g n
+digits_append : AppendsLastDigit digits
 unfolding digits
-digits_same zero g n h k = absurd (omega arith)
-digits_same (suc f) zero n h k = absurd (omega arith)
-digits_same (suc f) (suc g) n h k = go (ltb n 10) refl (λ m. digits_same f g (n / 10) (omega arith) (omega arith))
-  where
-    go : (b : Bool) → ltb n 10 ≡ b → (10 ≤ n → digits f (n / 10) ≡ digits g (n / 10))
-        → (if b then (48 + n) ∷ [] else digits f (n / 10) ++ ((48 + n % 10) ∷ [])) ≡ (if b then (48 + n) ∷ [] else digits g (n / 10) ++ ((48 + n % 10) ∷ []))
-    go true e ih = refl
-    go false e ih = rw (ih (ltb-false n 10 e))
+digits_append = record { one = λ f n h. rw (lt-ltb n 10 h); more = λ f n h. rw (le-ltb n 10 h) }
 
-pub decimal_digit : (n : ℕ) → n < 10 → decimal n ≡ (48 + n) ∷ []
-unfolding decimal digits
-decimal_digit n h = rw (lt-ltb n 10 h)
-
-pub decimal_step : (n : ℕ) → 10 ≤ n → decimal n ≡ decimal (n / 10) ++ ((48 + n % 10) ∷ [])
-unfolding decimal digits
-decimal_step n h = rw (le-ltb n 10 h, digits_same n (suc (n / 10)) (n / 10) (omega arith) (omega arith))
-
-pub length-step : (n : ℕ) → 10 ≤ n → length (decimal n) ≡ length (decimal (n / 10)) + 1
-length-step n h = ap length (decimal_step n h) ∙ length-append (decimal (n / 10)) _
-
-length_most : (k n : ℕ) → n < 10 ^ suc k → length (decimal n) ≤ suc k
-length_most zero n h = rw (decimal_digit n (omega arith)) (omega arith)
-length_most (suc k) n h = go (ltb n 10) refl (length_most k (n / 10) (omega (arith, pow-suc 10 (suc k))))
-  where
-    go : (b : Bool) → ltb n 10 ≡ b → length (decimal (n / 10)) ≤ suc k → length (decimal n) ≤ suc (suc k)
-    go true e ih = rw (decimal_digit n (ltb-true n 10 e)) (omega arith)
-    go false e ih = omega (arith, length-step n (ltb-false n 10 e))
+-- the rules' text of a number is the library's
+pub decimal_same : (n : ℕ) → n < 2 ^ 64 → library.decimal n ≡ decimal n
+unfolding decimal
+decimal_same n h = sym (decimal_from_appends digits digits_append (suc n) n h (omega (arith, length-decimal-le_succ n h)))
 
 -- a u64 has at most 20 digits
-pub length-decimal : (n : ℕ) → n < 2 ^ 64 → length (decimal n) ≤ 20
-length-decimal n h = length_most 19 n (omega arith)
+pub digits_most : (n : ℕ) → n < 2 ^ 64 → length (library.decimal n) ≤ 20
+digits_most n h = length-decimal-le 20 n (omega arith) (omega arith) h
 
-pub flag-decimal : (b : Bool) → flag b ≡ decimal (bool_byte b)
-flag-decimal false = sym (decimal_digit 0 (omega arith))
-flag-decimal true = sym (decimal_digit 1 (omega arith))
-
--- the last digit, written first
-pub last_digit : (l : Bytes) (at i n x : ℕ) → 10 ≤ n → i ≡ at + length (decimal n) → x ≡ 48 + n % 10
-    → sets (set l (i - 1) x) at (decimal (n / 10)) ≡ sets l at (decimal n)
-last_digit l at i n x h e k =
-    let p : i - 1 ≡ at + length (decimal (n / 10)) = omega (arith, length-step n h) in
-    rw (p, k, decimal_step n h) (sets_last (decimal (n / 10)) l at (48 + n % 10))
-
--- ---- signed numbers
-
-without_sign : (z : ℤ) → le_z (pos 0) z ≡ true → signed_decimal z ≡ decimal (nat_abs z)
+-- a number with its sign
+pub no_sign : (z : ℤ) → le_z (pos 0) z ≡ true → signed_decimal z ≡ decimal (unsigned_abs z)
 unfolding signed_decimal
-without_sign (pos n) h = refl
-without_sign (negsuc n) h = absurd (omega (arith, le_yes (pos 0) (negsuc n) h))
+no_sign (pos n) h = refl
+no_sign (negsuc n) h = absurd (omega (arith, le_yes (pos 0) (negsuc n) h))
 
-with_sign : (z : ℤ) → le_z (pos 0) z ≡ false → signed_decimal z ≡ 45 ∷ decimal (nat_abs z)
+pub minus_sign : (z : ℤ) → le_z (pos 0) z ≡ false → signed_decimal z ≡ 45 ∷ decimal (unsigned_abs z)
 unfolding signed_decimal
-with_sign (pos n) h = absurd (omega (arith, le_no (pos 0) (pos n) h))
-with_sign (negsuc n) h = refl
+minus_sign (pos n) h = absurd (omega (arith, le_no (pos 0) (pos n) h))
+minus_sign (negsuc n) h = refl
+
+pub flag_same : (b : Bool) → flag b ≡ decimal (bool_byte b)
+unfolding decimal digits
+flag_same false = refl
+flag_same true = refl
 
 -- the magnitude of an i64
 module _ (z : ℤ) (f : SFits w64 z) where
@@ -106,9 +75,6 @@ module _ (z : ℤ) (f : SFits w64 z) where
     pub held_cast : T (non_neg (sent z)) × Fits w64 (nat_abs (sent z))
     held_cast = simp to_z-of_z (not_below z f (simp to_z-of_z at h))
 
-    pub held_text : decimal (nat_abs (sent z)) ≡ signed_decimal z
-    held_text = simp to_z-of_z (sym (without_sign z (simp to_z-of_z at h)))
-
   module _ (h : le_z (pos 0) (sent z) ≡ false) where
     below : le_z (pos 0) z ≡ false
     below = simp to_z-of_z at h
@@ -121,6 +87,3 @@ module _ (z : ℤ) (f : SFits w64 z) where
 
     pub held_more : Fits w64 (nat_abs (sent (negsuc 0 -ℤ sent z)) + 1)
     held_more = let g = less_one z f below in simp to_z-of_z (one_more_fits z f below)
-
-    pub held_minus : 45 ∷ decimal (nat_abs (sent (negsuc 0 -ℤ sent z)) + 1) ≡ signed_decimal z
-    held_minus = let g = less_one z f below in simp (to_z-of_z, one_more z f below) (sym (with_sign z below))

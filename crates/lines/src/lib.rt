@@ -1,5 +1,5 @@
 // The line of text of an answer. Any crate may call `line::write_line`, with an out of any length.
 #![tactic(auto)]
 
-mod decimal;
 pub mod line;
+mod text;

@@ -2,148 +2,87 @@
 ghost use Rattle.std.specs.Prelude.{◌+◌, ◌≤◌, ◌≡◌, [], ◌∷◌, ◌++◌, ltb, length, if◌then◌else◌};
 ghost use Rattle.std.proofs.lemmas.List.Edits.{sets};
 ghost use Rattle.rules.specs.Answers.{Used, Wait, Settle};
-ghost use Rattle.rules.specs.Lines.{ascii, decimal, index, after_word, line};
+ghost use Rattle.rules.specs.Lines.{ascii, decimal, after_word, line};
 ghost use Rattle.answers.specs.Answers.{answer_of};
 ghost use Rattle.core_decide.specs.Decisions.{method_of};
-ghost use Rattle.core_uses.specs.Uses.{index_of};
 ghost use Rattle.lines.specs.Lines.{line_max};
 
-use crate::decimal::{put_decimal, put_signed};
+use crate::text::Text;
 use answers::answer::Answer;
 use core_decide::decide::SettleMethod;
-use core_take::take::{Index, PrintUse};
+use core_take::take::PrintUse;
 use core_terms::units::StrikeUsd;
 
 // No line is longer.
 pub const LINE_MAX: usize = 96;
 
-// Writes a text to the front, and answers where it ends.
-fn put(out: &mut [u8], text: &[u8]) -> usize
-    requires { length text.now ≤ length out.old }
-    ensures { (result ≡ length text.now) × (out.new ≡ sets out.old 0 text.now) }
-{
-    let mut i: usize = 0;
-    while i < text.len() {
-        out[i] = text[i];
-        i += 1;
-    }
-    text.len()
-}
-
-// A field: a space and a number.
-fn put_field(out: &mut [u8], at: usize, n: u64) -> usize
-    requires { at + 21 ≤ length out.old }
-    ensures value { (result ≡ at + length (ascii " " ++ decimal n)) × (out.new ≡ sets out.old at (ascii " " ++ decimal n)) }
-    ensures upper_bound { result ≤ at + 21 }
-{
-    out[at] = b' ';
-    put_decimal(out, at + 1, n)
-}
-
-fn put_index(out: &mut [u8], at: usize, i: Index) -> usize
-    requires { at + 21 ≤ length out.old }
-    ensures value { (result ≡ at + length (ascii " " ++ index (index_of i))) × (out.new ≡ sets out.old at (ascii " " ++ index (index_of i))) }
-    ensures upper_bound { result ≤ at + 21 }
-{
-    let Index::At(n) = i else {
-        out[at] = b' ';
-        out[at + 1] = b'-';
-        return at + 2;
-    };
-    put_field(out, at, n as u64)
-}
-
-// The start of a line: a word and one number.
-fn put_head(out: &mut [u8], word: &[u8], n: u8) -> usize
-    requires { length word.now + 21 ≤ length out.old }
-    ensures value { (result ≡ length (word.now ++ (ascii " " ++ decimal n))) × (out.new ≡ sets out.old 0 (word.now ++ (ascii " " ++ decimal n))) }
-    ensures upper_bound { result ≤ length word.now + 21 }
-{
-    let a = put(out, word);
-    put_field(out, a, n as u64)
-}
-
 // A line of a word and one number.
-fn put_short(out: &mut [u8], word: &[u8], n: u8) -> usize
-    requires { length word.now + 22 ≤ length out.old }
-    ensures value { (result ≡ length (word.now ++ after_word (decimal n ∷ []))) × (out.new ≡ sets out.old 0 (word.now ++ after_word (decimal n ∷ []))) }
-    ensures upper_bound { result ≤ length word.now + 22 }
+fn short(text: &mut Text, word: &[u8], n: u8)
+    requires { (text.old ≡ ascii "\n") × (length word.now + 22 ≤ line_max) }
+    ensures { text.new ≡ word.now ++ after_word (decimal n ∷ []) }
 {
-    let a = put_head(out, word, n);
-    out[a] = b'\n';
-    a + 1
+    text.number(n as u64);
+    text.put(word);
 }
 
-fn put_used(out: &mut [u8], series: u8, u: PrintUse) -> usize
-    requires { line_max ≤ length out.old }
-    ensures value { (result ≡ length (line series (Used (index_of u.slot) (index_of u.next_print) u.fallback))) × (out.new ≡ sets out.old 0 (line series (Used (index_of u.slot) (index_of u.next_print) u.fallback))) }
-    ensures upper_bound { result ≤ line_max }
+#[tactic(auto, using(crate::proofs::Decimals::flag_same), unfolding(rules::specs::Lines::line))]
+fn used(text: &mut Text, series: u8, u: PrintUse)
+    requires { text.old ≡ ascii "\n" }
+    ensures { text.new ≡ line series (Used u.slot u.next_print u.fallback) }
 {
-    let slot = u.slot;
-    let link = u.next_print;
-    let mut at = put_head(out, b"used", series);
-    at = put_index(out, at, slot);
-    at = put_index(out, at, link);
-    at = put_field(out, at, u.fallback as u64);
-    out[at] = b'\n';
-    at + 1
+    text.number(u.fallback as u64);
+    text.index(u.next_print);
+    text.index(u.slot);
+    text.number(series as u64);
+    text.put(b"used");
 }
 
-fn put_wait(out: &mut [u8], series: u8, until: i64) -> usize
-    requires { line_max ≤ length out.old }
-    ensures value { (result ≡ length (line series (Wait until))) × (out.new ≡ sets out.old 0 (line series (Wait until))) }
-    ensures upper_bound { result ≤ line_max }
+#[tactic(auto, unfolding(rules::specs::Lines::line))]
+fn wait(text: &mut Text, series: u8, until: i64)
+    requires { text.old ≡ ascii "\n" }
+    ensures { text.new ≡ line series (Wait until) }
 {
-    let mut at = put_head(out, b"wait", series);
-    out[at] = b' ';
-    at = put_signed(out, at + 1, until);
-    out[at] = b'\n';
-    at + 1
+    text.time(until);
+    text.number(series as u64);
+    text.put(b"wait");
 }
 
-fn put_settle(
-    out: &mut [u8],
-    series: u8,
-    method: SettleMethod,
-    price: StrikeUsd,
-    samples: u16,
-) -> usize
-    requires { line_max ≤ length out.old }
-    ensures value { (result ≡ length (line series (Settle (method_of method) price.0 samples))) × (out.new ≡ sets out.old 0 (line series (Settle (method_of method) price.0 samples))) }
-    ensures upper_bound { result ≤ line_max }
+#[tactic(auto, unfolding(rules::specs::Lines::line))]
+fn settle(text: &mut Text, series: u8, method: SettleMethod, price: StrikeUsd, samples: u16)
+    requires { text.old ≡ ascii "\n" }
+    ensures { text.new ≡ line series (Settle (method_of method) price.0 samples) }
 {
-    let mut at = put_head(out, b"settle", series);
-    at = put_field(out, at, method.number() as u64);
-    at = put_field(out, at, price.get());
-    at = put_field(out, at, samples as u64);
-    out[at] = b'\n';
-    at + 1
+    text.number(samples as u64);
+    text.number(price.get());
+    text.number(method.number() as u64);
+    text.number(series as u64);
+    text.put(b"settle");
 }
 
-// Writes the line of an answer to a command of the series to the front of out, and answers its
-// length.
-fn put_line(out: &mut [u8], series: u8, answer: Answer) -> usize
-    requires { line_max ≤ length out.old }
-    ensures value { (result ≡ length (line series (answer_of answer))) × (out.new ≡ sets out.old 0 (line series (answer_of answer))) }
-    ensures upper_bound { result ≤ line_max }
+// Puts the line of an answer to a command of the series before its line feed.
+#[tactic(auto, unfolding(rules::specs::Lines::line))]
+fn put_line(text: &mut Text, series: u8, answer: Answer)
+    requires { text.old ≡ ascii "\n" }
+    ensures { text.new ≡ line series (answer_of answer) }
 {
     match answer {
-        Answer::Opened => put_short(out, b"opened", series),
-        Answer::Used(u) => put_used(out, series, u),
-        Answer::Wait { until } => put_wait(out, series, until),
+        Answer::Opened => short(text, b"opened", series),
+        Answer::Used(u) => used(text, series, u),
+        Answer::Wait { until } => wait(text, series, until),
         Answer::Settle {
             method,
             price,
             samples,
-        } => put_settle(out, series, method, price, samples),
-        Answer::Void => put_short(out, b"void", series),
-        Answer::Done => put(out, b"done\n"),
-        Answer::Refused(n) => put_short(out, b"refused", n),
+        } => settle(text, series, method, price, samples),
+        Answer::Void => short(text, b"void", series),
+        Answer::Done => text.put(b"done"),
+        Answer::Refused(r) => short(text, b"refused", r.number()),
     }
 }
 
 // Writes the line to the front of out and answers its length. An out of fewer than LINE_MAX bytes
 // gets no line, and stays.
+#[tactic(auto, using(crate::proofs::Lines::over_front))]
 pub fn write_line(out: &mut [u8], series: u8, answer: Answer) -> usize
     ensures value { (result ≡ (if ltb (length out.old) line_max then 0 else length (line series (answer_of answer)))) × (out.new ≡ (if ltb (length out.old) line_max then out.old else sets out.old 0 (line series (answer_of answer)))) }
     ensures upper_bound { result ≤ line_max }
@@ -151,5 +90,9 @@ pub fn write_line(out: &mut [u8], series: u8, answer: Answer) -> usize
     if out.len() < LINE_MAX {
         return 0;
     }
-    put_line(out, series, answer)
+    let mut text = Text::new();
+    put_line(&mut text, series, answer);
+    let line = text.as_slice();
+    out[..line.len()].copy_from_slice(line);
+    line.len()
 }

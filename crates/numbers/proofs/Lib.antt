@@ -1,3 +1,2 @@
 pub mod Ranges
 pub mod Times
-pub mod Wides

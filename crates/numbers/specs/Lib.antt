@@ -1,2 +1,1 @@
 pub mod Times
-pub mod Wides

@@ -3,59 +3,41 @@ ghost use Rattle.std.specs.Prelude.{◌≡◌, pos, ◌+ℤ◌, ◌-ℤ◌};
 ghost use Rattle.rules.specs.Decision.{max_z};
 ghost use Rattle.numbers.specs.Times.{time_of, gap_of};
 
-#[derive(Clone, Copy)]
-pub enum Time {
-    At(i64),
-    Overflow,
-}
-
 // t + d where it fits.
-pub fn after(t: i64, d: u32) -> Time
+pub fn after(t: i64, d: u32) -> Option<i64>
     ensures { result ≡ time_of (t +ℤ pos d) }
 {
-    let w = d as i64;
+    let w = i64::from(d);
     if i64::MAX - w < t {
-        return Time::Overflow;
+        return None;
     }
-    Time::At(t + w)
+    Some(t + w)
 }
 
 // t - d where it fits.
-pub fn before(t: i64, d: u32) -> Time
+pub fn before(t: i64, d: u32) -> Option<i64>
     ensures { result ≡ time_of (t -ℤ pos d) }
 {
-    let w = d as i64;
+    let w = i64::from(d);
     if t < i64::MIN + w {
-        return Time::Overflow;
+        return None;
     }
-    Time::At(t - w)
+    Some(t - w)
 }
 
 // The later of two times.
 pub fn later(a: i64, b: i64) -> i64
     ensures { result ≡ max_z a b }
 {
-    if a < b { b } else { a }
+    a.max(b)
 }
 
-// How far `to` lies ahead of `from`: it may be as much as 2^64 - 1.
-#[derive(Clone, Copy)]
-pub enum Gap {
-    Of(u64),
-    Behind,
-}
-
-pub fn span(from: i64, to: i64) -> Gap
+// How far `to` lies ahead of `from`, where it is not behind: it may be as much as 2^64 - 1.
+pub fn span(from: i64, to: i64) -> Option<u64>
     ensures { result ≡ gap_of from to }
 {
     if to < from {
-        return Gap::Behind;
+        return None;
     }
-    if 0 <= from {
-        return Gap::Of((to - from) as u64);
-    }
-    if to < 0 {
-        return Gap::Of((to - from) as u64);
-    }
-    Gap::Of((to as u64) + ((-1 - from) as u64) + 1)
+    Some(to.abs_diff(from))
 }

@@ -1,9 +1,8 @@
 -- What an offer answers and leaves where the core tests the terms and the state.
-use Rattle.std.specs.Prelude.{if◌then◌else◌}
+use Rattle.std.specs.Prelude.{if◌then◌else◌, Option}
 use Prim.Native.Nat.{ℕ, ◌*◌}
 use mathlib.Core.Path.{◌≡◌, refl, sym, ap, ◌∙◌}
 use mathlib.Core.Bool.{Bool, true, false, not, ◌&&◌}
-use mathlib.Core.Option.{Option}
 use mathlib.Core.List.{List}
 use lib.IntN.{ℤ, pos, negsuc, nat_abs}
 use lib.Signed.{le_z}
@@ -18,7 +17,7 @@ use Rattle.rules.specs.Series.{Opening, Offer, Series, step}
 use Rattle.rules.specs.Record.{open_record, bytes_of}
 use Rattle.rules.specs.Book.{replaced, stored_answer, written}
 use Rattle.record_store.specs.Prices.{with_price}
-use Rattle.answers.specs.Commands.{in_book}
+use Rattle.book.specs.Refusals.{in_book}
 use Rattle.answers.proofs.Commands.{tested_as, tested}
 
 -- ---- acceptance and the core don't refuse with 12

@@ -6,31 +6,26 @@ ghost use Rattle.answers.specs.Answers.{answer_of};
 ghost use Rattle.answers.specs.Commands.{Untested, answer_at, after_at};
 
 use crate::store::store_open;
-use answers::answer::{Answer, refusal};
-use book::look::RECORD_SIZE;
+use answers::answer::{Answer, in_use};
+use book::look::look;
+use book::refusal::Refusal;
 use core_prices::print::Quote;
-use core_take::take::PrintUseResult;
 use record_read::contents::read_contents;
-use record_test::status::{Status, status_at};
 
 // An offer to an open series, whose terms and state the core tests.
 fn offer_open(book: &mut [u8], series: u8, quote: Quote, now: i64) -> Answer
     requires { Untested book.old series }
     ensures { (answer_of result ≡ answer_at book.old series (Offer (quote_of quote) now)) × (book.new ≡ after_at book.old series (Offer (quote_of quote) now)) }
 {
-    let at = series as usize * RECORD_SIZE;
-    let end = at + RECORD_SIZE;
-    let c = read_contents(&book[at..end]);
+    let c = read_contents(look(&book[..], series));
     let params = c.params;
     let expiry = c.expiry;
     let max_conf_bps = c.max_conf_bps;
     let added = core_take::take::offer(c.state, params, expiry, max_conf_bps, quote, now);
-    let result = added.result;
-    match result {
-        PrintUseResult::Ok(u) => {
+    match added.result {
+        Ok(u) => {
             let next = added.state;
-            let slot = u.slot;
-            let price = endian::i64_to_bits(quote.price);
+            let price = quote.price.cast_unsigned();
             store_open(
                 book,
                 series,
@@ -38,12 +33,12 @@ fn offer_open(book: &mut [u8], series: u8, quote: Quote, now: i64) -> Answer
                 max_conf_bps,
                 expiry,
                 next,
-                slot,
+                u.slot,
                 price,
             );
             Answer::Used(u)
         }
-        PrintUseResult::Err(e) => Answer::Refused(refusal(e)),
+        Err(e) => Answer::Refused(Refusal::from(e)),
     }
 }
 
@@ -51,10 +46,8 @@ fn offer_open(book: &mut [u8], series: u8, quote: Quote, now: i64) -> Answer
 pub fn offer(book: &mut [u8], series: u8, quote: Quote, now: i64) -> Answer
     ensures { (answer_of result ≡ answer_at book.old series (Offer (quote_of quote) now)) × (book.new ≡ after_at book.old series (Offer (quote_of quote) now)) }
 {
-    match status_at(&book[..], series) {
-        Status::Empty => Answer::Refused(37),
-        Status::Untested => offer_open(book, series, quote, now),
-        Status::Fixed => Answer::Refused(38),
-        Status::Refused(n) => Answer::Refused(n),
+    match in_use(&book[..], series) {
+        Ok(()) => offer_open(book, series, quote, now),
+        Err(r) => Answer::Refused(r),
     }
 }

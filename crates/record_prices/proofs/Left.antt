@@ -1,27 +1,29 @@
 -- The test of the slot prices, one slot after the other and then by pairs, from the last down.
 use Rattle.std.specs.Prelude.{if◌then◌else◌}
+use Rattle.std.specs.Int.{from_bool}
 use Prim.Native.Nat.{ℕ, suc, ◌+◌, ◌*◌, ◌-◌, ◌/◌, ◌%◌, ◌^◌, ◌≤◌, ◌<◌}
 use mathlib.Core.Path.{◌≡◌, refl, sym, ap, ◌∙◌}
 use mathlib.Core.Bool.{Bool, true, false, ◌&&◌, beq}
 use native.Mathlib.Omega.{arith}
 use native.Mathlib.Nat.{zero-add, lt_of_lt_of_le, pow-suc, div-one, div-eq_of_lt, div-div-eq-div-mul}
 use native.Mathlib.Numerals.{add-one}
-use lib.ListN.{get_or, drop}
+use lib.ListN.{length, get_or, drop}
 use lib.Bits.{bit_or}
 use lib.Dec.{ltb, eqb, lit<}
 use lib.Arith.{lt_of_le-ne}
 use lib.Pow.{pow_mono}
-use borrow.Author.Tests.{eq-eqb, ne_eqb, eqb-true, eqb-false}
-use Rattle.rules.proofs.Bools.{both, not_both, and_true, and_false, and_assoc, either_below}
+use borrow.Author.Tests.{ltb-true, lt-ltb, le-ltb, eq-eqb, ne_eqb, eqb-true, eqb-false}
+use Rattle.rules.proofs.Bools.{both, not_both, and_true, and_false, and_assoc, either_below, either_zero}
 use Rattle.rules.proofs.Bytes.{drop-bytes, little-below}
 use Rattle.rules.proofs.SlotPrices.{price_at_lem}
+use Rattle.endian.proofs.Offsets.{joined_at}
 use Rattle.rules.specs.Log.{Σ<, all<}
 use Rattle.rules.specs.Bytes.{Bytes, are_bytes, unsigned_at}
 use Rattle.rules.specs.Taking.{bit}
 use Rattle.rules.specs.State.{candidates_of}
 use Rattle.rules.specs.Series.{slot_places}
 use Rattle.rules.specs.Brought.{low_price, low_slots}
-use Rattle.rules.specs.Record.{slot_prices_at, slot_priced, good_prices, parts_in, prices_in, holdings_in}
+use Rattle.rules.specs.Record.{slot_prices_at, record_size, slot_priced, good_prices, parts_in, prices_in, holdings_in}
 use Rattle.record_prices.specs.Left.{Left}
 
 -- the last digit, and the others
@@ -42,23 +44,26 @@ last_digit bits q p = go p (eqb (q % 2) 1) (eqb bits (q / 2)) refl refl
         let y = eqb-false bits (q / 2) g in
         ne_eqb _ q (λ e. y (omega arith))
 
-pub bit_small : (p : ℕ) {b : ℕ} → b ≡ (if ltb 0 p then 1 else 0) → b ≤ 1
-bit_small p {b} e = rw e (go (ltb 0 p))
+-- a slot's bit, as the code makes it
+pub bit_is : (p : ℕ) {b : ℕ} → b ≡ from_bool (ltb 0 p) → b ≡ (if ltb 0 p then 1 else 0)
+bit_is p e = e ∙ go (ltb 0 p)
   where
-    go : (t : Bool) → (if t then 1 else 0) ≤ 1
-    go true = omega arith
-    go false = omega arith
+    go : (t : Bool) → from_bool t ≡ (if t then 1 else 0)
+    go true = refl
+    go false = refl
 
--- two halves against two
-pub halves_differ : (h l h' l' : ℕ) → l < 2 ^ 64 → l' < 2 ^ 64 → (l' ≡ l → ⊥) → eqb (h * 2 ^ 64 + l) (h' * 2 ^ 64 + l') ≡ false
-halves_differ h l h' l' s s' d = ne_eqb (h * 2 ^ 64 + l) (h' * 2 ^ 64 + l') (λ e. d (omega arith))
+-- two low prices
+pub pair_fits : (lower upper : ℕ) → bit_or lower upper < 2 ^ 63 → upper + lower < 2 ^ 64
+pair_fits lower upper h =
+    let (x, y) = both (ltb lower (2 ^ 63)) (ltb upper (2 ^ 63)) (sym (either_below 63 lower upper) ∙ lt-ltb (bit_or lower upper) (2 ^ 63) h) in
+    omega (arith, ltb-true lower (2 ^ 63) x, ltb-true upper (2 ^ 63) y)
 
-pub high_halves : (h l h' l' : ℕ) → l' ≡ l → l < 2 ^ 64 → eqb h' h ≡ eqb (h * 2 ^ 64 + l) (h' * 2 ^ 64 + l')
-high_halves h l h' l' e s = go (eqb h' h) refl
+eqb_turned : (a b : ℕ) → eqb a b ≡ eqb b a
+eqb_turned a b = go (eqb b a) refl
   where
-    go : (b : Bool) → eqb h' h ≡ b → b ≡ eqb (h * 2 ^ 64 + l) (h' * 2 ^ 64 + l')
-    go true q = let x = eqb-true h' h q in sym (eq-eqb (h * 2 ^ 64 + l) (h' * 2 ^ 64 + l') (omega arith))
-    go false q = let x = eqb-false h' h q in sym (ne_eqb (h * 2 ^ 64 + l) (h' * 2 ^ 64 + l') (λ d. x (omega arith)))
+    go : (t : Bool) → eqb b a ≡ t → eqb a b ≡ t
+    go true e = eq-eqb a b (sym (eqb-true b a e))
+    go false e = ne_eqb a b (λ h. eqb-false b a e (sym h))
 
 -- the tests of the slots below i + 1, and bits for the others: one test fewer, and its bit
 one_less : (test : ℕ → Bool) (all : Bool) (set i bits bits' : ℕ) (p : Bool) → test i ≡ beq (bit i set) p → bits' ≡ 2 * bits + (if p then 1 else 0)
@@ -159,6 +164,16 @@ module _ (bs : Bytes) where
             left_high (2 * m + 1) (2 * m) _ (total + upper) lower one refl down q
         go true true p q h = absurd (not_both (rw (p, q)) h)
 
+    pub pair_refused : 2 ^ 63 ≤ bit_or lower upper → false ≡ eqb (length bs) record_size && (good_prices (holdings_in bs) && low_slots (holdings_in bs))
+    pair_refused h = sym (simp (pair_high (le-ltb (bit_or lower upper) (2 ^ 63) h), and_false))
+
+  -- without a price
+  pub pair_none : (n m lower upper : ℕ) → Left bs (2 * n) 0 0 → n ≡ m + 1 → lower ≡ unsigned_at bs (slot_prices_at + 16 * m) 8
+      → upper ≡ unsigned_at bs (slot_prices_at + 16 * m + 8) 8 → bit_or lower upper ≡ 0 → Left bs (2 * m) 0 0
+  pair_none n m lower upper l e lo hi z =
+      let (x, y) = both (eqb lower 0) (eqb upper 0) (sym (either_zero lower upper) ∙ eq-eqb (bit_or lower upper) 0 z) in
+      pair_next n m 0 0 0 0 l e (sym (eqb-true lower 0 x) ∙ lo) (sym (eqb-true upper 0 y) ∙ hi) 0 0 0 0 refl refl refl refl refl
+
   -- all slots are tested
   pub left_done : (i bits total : ℕ) → Left bs i bits total → i ≡ 0
       → good_prices (holdings_in bs) && low_slots (holdings_in bs) ≡ eqb (unsigned_at bs 56 8 * 2 ^ 64 + unsigned_at bs 48 8) total && eqb bits (unsigned_at bs 32 4)
@@ -171,3 +186,18 @@ module _ (bs : Bytes) where
       ∙ and_true _
       ∙ ap (λ (x : ℕ). eqb (unsigned_at bs 56 8 * 2 ^ 64 + unsigned_at bs 48 8) x && all< slot_places (slot_priced (holdings_in bs))) sum
       ∙ ap (λ (x : Bool). eqb (unsigned_at bs 56 8 * 2 ^ 64 + unsigned_at bs 48 8) total && x) set
+
+  -- the two comparisons at the end
+  module _ (n bits total set sum : ℕ) (size : length bs ≡ record_size) (l : Left bs (2 * n) bits total) (e : n ≡ 0)
+      (es : set ≡ unsigned_at bs 32 4) (et : sum ≡ unsigned_at bs 48 16) where
+    abbrev tests : Bool
+    tests = eqb (length bs) record_size && (good_prices (holdings_in bs) && low_slots (holdings_in bs))
+
+    told : tests ≡ eqb sum total && eqb bits set
+    told = rw (eq-eqb (length bs) record_size size, left_done (2 * n) bits total l (omega (arith, e)), es, et, joined_at bs 48 8 8) refl
+
+    pub bits_met : bits ≡ set → eqb total sum ≡ tests
+    bits_met h = eqb_turned total sum ∙ sym (told ∙ ap (λ (b : Bool). eqb sum total && b) (eq-eqb bits set h) ∙ and_true (eqb sum total))
+
+    pub bits_missed : (bits ≡ set → ⊥) → false ≡ tests
+    bits_missed h = sym (told ∙ ap (λ (b : Bool). eqb sum total && b) (ne_eqb bits set h) ∙ and_false (eqb sum total))

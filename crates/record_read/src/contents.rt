@@ -9,7 +9,7 @@ use book::look::RECORD_SIZE;
 use core_parts::state::SettlementParts;
 use core_terms::params::OracleParams;
 use core_terms::units::UnixTimestamp;
-use fields::read::{i8_at, i64_at, u8_at, u16_at, u32_at, u64_at};
+use endian::LittleEndian;
 
 // What a record holds beside its outcome.
 #[derive(Clone, Copy)]
@@ -24,15 +24,15 @@ fn read_params(bytes: &[u8]) -> OracleParams
     ensures { terms_of result ≡ (opening_in bytes.now).terms }
 {
     OracleParams {
-        window_s: u32_at(bytes, 12),
-        slot_s: u32_at(bytes, 16),
-        slot_tolerance_s: u16_at(bytes, 4),
-        min_samples: u16_at(bytes, 6),
-        k_next_print: u8_at(bytes, 1),
-        challenge_delay_s: u32_at(bytes, 20),
-        fallback_lookback_s: u32_at(bytes, 24),
-        hard_deadline_s: u32_at(bytes, 28),
-        expo: i8_at(bytes, 2),
+        window_s: u32::read(bytes, 12),
+        slot_s: u32::read(bytes, 16),
+        slot_tolerance_s: u16::read(bytes, 4),
+        min_samples: u16::read(bytes, 6),
+        k_next_print: u8::read(bytes, 1),
+        challenge_delay_s: u32::read(bytes, 20),
+        fallback_lookback_s: u32::read(bytes, 24),
+        hard_deadline_s: u32::read(bytes, 28),
+        expo: i8::read(bytes, 2),
     }
 }
 
@@ -40,29 +40,28 @@ fn read_state(bytes: &[u8]) -> SettlementParts
     ensures { stored_of result ≡ parts_in bytes.now }
 {
     SettlementParts {
-        sample_sum_low: u64_at(bytes, 48),
-        sample_sum_high: u64_at(bytes, 56),
-        filled_slots: u32_at(bytes, 32),
+        sample_sum: u128::read(bytes, 48),
+        filled_slots: u32::read(bytes, 32),
         next_times: [
-            i64_at(bytes, 64),
-            i64_at(bytes, 72),
-            i64_at(bytes, 80),
-            i64_at(bytes, 88),
-            i64_at(bytes, 96),
+            i64::read(bytes, 64),
+            i64::read(bytes, 72),
+            i64::read(bytes, 80),
+            i64::read(bytes, 88),
+            i64::read(bytes, 96),
         ],
         next_prices: [
-            u64_at(bytes, 104),
-            u64_at(bytes, 112),
-            u64_at(bytes, 120),
-            u64_at(bytes, 128),
-            u64_at(bytes, 136),
+            u64::read(bytes, 104),
+            u64::read(bytes, 112),
+            u64::read(bytes, 120),
+            u64::read(bytes, 128),
+            u64::read(bytes, 136),
         ],
-        next_len: u8_at(bytes, 3),
-        fallback_time: i64_at(bytes, 144),
-        fallback_price: u64_at(bytes, 152),
-        window_changed: i64_at(bytes, 160),
-        next_print_changed: i64_at(bytes, 168),
-        fallback_changed: i64_at(bytes, 176),
+        next_len: u8::read(bytes, 3),
+        fallback_time: i64::read(bytes, 144),
+        fallback_price: u64::read(bytes, 152),
+        window_changed: i64::read(bytes, 160),
+        next_print_changed: i64::read(bytes, 168),
+        fallback_changed: i64::read(bytes, 176),
     }
 }
 
@@ -99,8 +98,8 @@ pub fn read_contents(bytes: &[u8]) -> Contents
     }
     Contents {
         params: read_params(bytes),
-        max_conf_bps: u16_at(bytes, 8),
-        expiry: UnixTimestamp::new(i64_at(bytes, 40)),
+        max_conf_bps: u16::read(bytes, 8),
+        expiry: UnixTimestamp::new(i64::read(bytes, 40)),
         state: read_state(bytes),
     }
 }

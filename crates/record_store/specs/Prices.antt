@@ -1,6 +1,5 @@
 -- The slot prices with one of them written.
-use Rattle.std.specs.Prelude.{ℕ, List, set}
-use Rattle.std.proofs.Math.Option.{Option}
+use Rattle.std.specs.Prelude.{ℕ, List, set, Option}
 use Rattle.rules.specs.Log.{maybe}
 
 abbrev pub with_price : List ℕ → Option ℕ → ℕ → List ℕ

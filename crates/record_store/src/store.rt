@@ -6,7 +6,6 @@ ghost use Rattle.core_parts.specs.States.{stored_of};
 ghost use Rattle.core_decide.specs.Decisions.{answer_of};
 ghost use Rattle.record_read.specs.Records.{opening_with};
 ghost use Rattle.record_write.specs.Stores.{record_over};
-ghost use Rattle.core_uses.specs.Uses.{index_of};
 ghost use Rattle.record_store.specs.Outcomes.{outcome_of};
 ghost use Rattle.record_store.specs.Prices.{with_price};
 
@@ -14,70 +13,69 @@ use core_decide::decide::{Decision, SettleMethod};
 use core_parts::state::SettlementParts;
 use core_terms::params::OracleParams;
 use core_terms::units::UnixTimestamp;
-use core_uses::uses::Index;
 use record_write::price::write_slot_price;
 use record_write::record::{Outcome, write_record};
 
+// The tag of an open record.
+const OPEN: u8 = 1;
+
 // Writes an open record over a record's bytes, with a price for one slot; the other slot prices stay.
 // Bytes of another length stay too.
+#[tactic(auto, using(crate::proofs::Priced::priced_open), unfolding(core_parts::specs::States::stored_of))]
 pub fn write_open(
     part: &mut [u8],
     params: OracleParams,
     max_conf_bps: u16,
     expiry: UnixTimestamp,
     state: SettlementParts,
-    slot: Index,
+    slot: Option<u8>,
     price: u64,
 )
-    ensures { part.new ≡ record_over part.old (open_record (opening_with params max_conf_bps expiry.0) (stored_of state) (with_price (prices_in part.old) (index_of slot) price)) }
+    ensures { part.new ≡ record_over part.old (open_record (opening_with params max_conf_bps expiry.0) (stored_of state) (with_price (prices_in part.old) slot price)) }
 {
     let none = Outcome {
-        tag: 1,
+        tag: OPEN,
         samples: 0,
         method: 0,
         fixing_time: 0,
         price: 0,
     };
     write_record(part, params, max_conf_bps, expiry.get(), state, none);
-    let Index::At(i) = slot else {
-        return;
-    };
-    write_slot_price(part, i, price);
+    if let Some(i) = slot {
+        write_slot_price(part, i, price);
+    }
 }
 
 // The tag of a record that is fixed by the vote (#109).
 const FIXED: u8 = 3;
 
-// The outcome that a decision is at a time.
+// The outcome that a decision is at a time. A Wait, which no caller stores, has none.
 fn outcome_of(d: Decision, fixing_time: i64) -> Outcome
     ensures { result ≡ outcome_of (answer_of d) fixing_time }
 {
+    let none = Outcome {
+        tag: FIXED,
+        samples: 0,
+        method: 0,
+        fixing_time,
+        price: 0,
+    };
     match d {
         Decision::Settle {
             method,
             price,
             samples,
         } => Outcome {
-            tag: FIXED,
-            samples: samples,
+            samples,
             method: method.number(),
-            fixing_time: fixing_time,
             price: price.get(),
+            ..none
         },
         Decision::Void => Outcome {
-            tag: FIXED,
-            samples: 0,
             method: SettleMethod::Void.number(),
-            fixing_time: fixing_time,
-            price: 0,
+            ..none
         },
-        Decision::Wait { until: _ } => Outcome {
-            tag: FIXED,
-            samples: 0,
-            method: 0,
-            fixing_time: fixing_time,
-            price: 0,
-        },
+        Decision::Wait { .. } => none,
     }
 }
 

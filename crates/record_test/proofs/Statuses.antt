@@ -8,10 +8,10 @@ use native.Mathlib.Omega.{arith}
 use lib.ListN.{length, take, drop, drop_of_length-le}
 use lib.IntN.{ℤ}
 use lib.Dec.{ltb, leb, eqb}
-use borrow.Author.Tests.{ltb-true, ltb-false, le-leb, lt-leb, eq-eqb, ne_eqb, eqb-true, eqb-false}
+use borrow.Author.Tests.{ltb-true, ltb-false, lt-ltb, le-ltb, le-leb, lt-leb, eq-eqb, ne_eqb, eqb-true, eqb-false}
 use Rattle.rules.specs.Log.{every}
-use Rattle.rules.specs.Bytes.{Bytes, all_zero, little, unsigned_at}
-use Rattle.rules.specs.Answers.{ok, refused, Answer, Refused}
+use Rattle.rules.specs.Bytes.{Bytes, are_bytes, all_zero, little, unsigned_at}
+use Rattle.rules.specs.Answers.{Result, ok, refused, Answer, Refused}
 use Rattle.rules.specs.Terms.{Terms, good_terms}
 use Rattle.rules.specs.Decision.{voted}
 use Rattle.rules.specs.State.{Parts, candidates_of, good_state, decide_call}
@@ -20,6 +20,8 @@ use Rattle.rules.specs.Brought.{left_by_prints}
 use Rattle.rules.specs.Record.{record_size, book_size, series_count, good_prices, opening_in, parts_in, holdings_in, tag_in, fixing_time_in, order_in, series_in, body_tests, open_tests, fixed_tests, standing, acceptable, stored}
 use Rattle.rules.specs.Book.{record_at, look}
 use Rattle.rules.proofs.Bools.{both, not_both, and_true, and_false}
+use Rattle.rules.proofs.Bytes.{drop-bytes, little-below}
+use Rattle.endian.proofs.Offsets.{joined_at}
 use Rattle.book.specs.Looks.{Allowed}
 use Rattle.record_test.specs.declared.status.Status.{Status}
 use Rattle.record_test.specs.declared.status.Status.TheVariants as S
@@ -66,7 +68,7 @@ module _ (bs : Bytes) where
       simp (eq-eqb (unsigned_at bs 37 3) 0 e, x, y, and_true) (λ i. good_terms (sym et i) && good_state (sym et i) (sym es i))
 
   -- there, an open and a fixed record
-  pub open_status : (b : Bool) → tag_in bs ≡ 1 → unsigned_at bs 37 3 ≡ 0 → good_holdings bs ≡ true → every (open_tests bs) ≡ b → (if b then status_as S.Untested bs else refused 11) ≡ stored bs
+  pub open_status : (b : Bool) → tag_in bs ≡ 1 → unsigned_at bs 37 3 ≡ 0 → good_holdings bs ≡ true → every (open_tests bs) ≡ b → (if b then status_as (ok S.Untested) bs else refused 11) ≡ stored bs
   unfolding stored acceptable series_in
   open_status b t p g f = rw (t, body_is refl refl p g, f) (go (good_body bs) b)
     where
@@ -77,7 +79,7 @@ module _ (bs : Bytes) where
       go false false = refl
 
   pub fixed_status : (b : Bool) → eqb (tag_in bs) 0 ≡ false → eqb (tag_in bs) 1 ≡ false → tag_in bs ≤ 3 → unsigned_at bs 37 3 ≡ 0 → good_holdings bs ≡ true
-      → b ≡ good_body bs && every (fixed_tests bs) → (if b then status_as S.Fixed bs else refused 11) ≡ stored bs
+      → b ≡ good_body bs && every (fixed_tests bs) → (if b then status_as (ok S.Fixed) bs else refused 11) ≡ stored bs
   unfolding stored acceptable series_in
   fixed_status b x y t p g f = rw (x, y, le-leb (tag_in bs) 3 t, body_is refl refl p g, f)
 
@@ -102,22 +104,22 @@ module _ (bs : Bytes) where
   pub status_stored : status_as (status_of bs) bs ≡ stored bs
   status_stored = go (eqb (tag_in bs) 0) (ltb 3 (tag_in bs)) (eqb (unsigned_at bs 37 3) 0) (good_holdings bs) (eqb (tag_in bs) 1) refl refl refl refl refl
     where
-      zero_tag : (b : Bool) → tag_in bs ≡ 0 → all_zero bs ≡ b → status_as (if b then S.Empty else S.Refused 11) bs ≡ stored bs
+      zero_tag : (b : Bool) → tag_in bs ≡ 0 → all_zero bs ≡ b → status_as (if b then ok S.Empty else refused 11) bs ≡ stored bs
       zero_tag true t e = sym (stored_zero true t e)
       zero_tag false t e = sym (stored_zero false t e)
 
-      one_tag : (b : Bool) → tag_in bs ≡ 1 → unsigned_at bs 37 3 ≡ 0 → good_holdings bs ≡ true → every (open_tests bs) ≡ b → status_as (if b then S.Untested else S.Refused 11) bs ≡ stored bs
+      one_tag : (b : Bool) → tag_in bs ≡ 1 → unsigned_at bs 37 3 ≡ 0 → good_holdings bs ≡ true → every (open_tests bs) ≡ b → status_as (if b then ok S.Untested else refused 11) bs ≡ stored bs
       one_tag true t p g e = open_status true t p g e
       one_tag false t p g e = open_status false t p g e
 
       fixed_tag : (b : Bool) → eqb (tag_in bs) 0 ≡ false → eqb (tag_in bs) 1 ≡ false → tag_in bs ≤ 3 → unsigned_at bs 37 3 ≡ 0 → good_holdings bs ≡ true
-          → b ≡ good_body bs && every (fixed_tests bs) → status_as (if b then S.Fixed else S.Refused 11) bs ≡ stored bs
+          → b ≡ good_body bs && every (fixed_tests bs) → status_as (if b then ok S.Fixed else refused 11) bs ≡ stored bs
       fixed_tag true x y t p g e = fixed_status true x y t p g e
       fixed_tag false x y t p g e = fixed_status false x y t p g e
 
       go : (x y p g z : Bool) → eqb (tag_in bs) 0 ≡ x → ltb 3 (tag_in bs) ≡ y → eqb (unsigned_at bs 37 3) 0 ≡ p → good_holdings bs ≡ g → eqb (tag_in bs) 1 ≡ z
-          → status_as (if x then (if all_zero bs then S.Empty else S.Refused 11) else (if y then S.Refused 11 else (if not p then S.Refused 11 else (if not g then S.Refused 11 else
-          (if z then (if every (open_tests bs) then S.Untested else S.Refused 11) else (if good_body bs && every (fixed_tests bs) then S.Fixed else S.Refused 11)))))) bs ≡ stored bs
+          → status_as (if x then (if all_zero bs then ok S.Empty else refused 11) else (if y then refused 11 else (if not p then refused 11 else (if not g then refused 11 else
+          (if z then (if every (open_tests bs) then ok S.Untested else refused 11) else (if good_body bs && every (fixed_tests bs) then ok S.Fixed else refused 11)))))) bs ≡ stored bs
       go true y p g z ex ey ep eg ez = zero_tag (all_zero bs) (eqb-true (tag_in bs) 0 ex) refl
       go false true p g z ex ey ep eg ez = sym (stored-above (ltb-true 3 (tag_in bs) ey))
       go false false false g z ex ey ep eg ez = sym (stored-spoilt (eqb-false (tag_in bs) 0 ex) (not_padded ep))
@@ -127,15 +129,15 @@ module _ (bs : Bytes) where
           fixed_tag (good_body bs && every (fixed_tests bs)) ex ez (ltb-false 3 (tag_in bs) ey) (eqb-true (unsigned_at bs 37 3) 0 ep) eg refl
 
   -- what is known of an empty record, and of one that is still to be tested
-  abbrev status_by : Bool → Bool → Bool → Bool → Bool → Bool → Bool → Bool → Status
+  abbrev status_by : Bool → Bool → Bool → Bool → Bool → Bool → Bool → Bool → Result Status
   status_by x a y p g z o f =
-      if x then (if a then S.Empty else S.Refused 11) else (if y then S.Refused 11 else (if not p then S.Refused 11 else (if not g then S.Refused 11 else
-      (if z then (if o then S.Untested else S.Refused 11) else (if f then S.Fixed else S.Refused 11)))))
+      if x then (if a then ok S.Empty else refused 11) else (if y then refused 11 else (if not p then refused 11 else (if not g then refused 11 else
+      (if z then (if o then ok S.Untested else refused 11) else (if f then ok S.Fixed else refused 11)))))
 
-  pub empty_zero : status_of bs ≡ S.Empty → all_zero bs ≡ true
+  pub empty_zero : status_of bs ≡ ok S.Empty → all_zero bs ≡ true
   empty_zero e = go (eqb (tag_in bs) 0) (all_zero bs) (ltb 3 (tag_in bs)) (eqb (unsigned_at bs 37 3) 0) (good_holdings bs) (eqb (tag_in bs) 1) (every (open_tests bs)) (good_body bs && every (fixed_tests bs)) e
     where
-      go : (x a y p g z o f : Bool) → status_by x a y p g z o f ≡ S.Empty → a ≡ true
+      go : (x a y p g z o f : Bool) → status_by x a y p g z o f ≡ ok S.Empty → a ≡ true
       go true true y p g z o f e = refl
       go true false y p g z o f e = cc
       go false a true p g z o f e = cc
@@ -146,10 +148,10 @@ module _ (bs : Bytes) where
       go false a false true true false o true e = cc
       go false a false true true false o false e = cc
 
-  pub untested_left : status_of bs ≡ S.Untested → good_holdings bs ≡ true
+  pub untested_left : status_of bs ≡ ok S.Untested → good_holdings bs ≡ true
   untested_left e = go (eqb (tag_in bs) 0) (all_zero bs) (ltb 3 (tag_in bs)) (eqb (unsigned_at bs 37 3) 0) (good_holdings bs) (eqb (tag_in bs) 1) (every (open_tests bs)) (good_body bs && every (fixed_tests bs)) e
     where
-      go : (x a y p g z o f : Bool) → status_by x a y p g z o f ≡ S.Untested → g ≡ true
+      go : (x a y p g z o f : Bool) → status_by x a y p g z o f ≡ ok S.Untested → g ≡ true
       go true true y p g z o f e = cc
       go true false y p g z o f e = cc
       go false a true p g z o f e = cc
@@ -158,10 +160,10 @@ module _ (bs : Bytes) where
       go false a false true true z o f e = refl
 
   -- by the vote, since its tag is 1
-  pub untested_voted : status_of bs ≡ S.Untested → order_in bs ≡ voted
+  pub untested_voted : status_of bs ≡ ok S.Untested → order_in bs ≡ voted
   untested_voted e = go (eqb (tag_in bs) 0) (all_zero bs) (ltb 3 (tag_in bs)) (eqb (unsigned_at bs 37 3) 0) (good_holdings bs) (eqb (tag_in bs) 1) (every (open_tests bs)) (good_body bs && every (fixed_tests bs)) refl e
     where
-      go : (x a y p g z o f : Bool) → eqb (tag_in bs) 1 ≡ z → status_by x a y p g z o f ≡ S.Untested → order_in bs ≡ voted
+      go : (x a y p g z o f : Bool) → eqb (tag_in bs) 1 ≡ z → status_by x a y p g z o f ≡ ok S.Untested → order_in bs ≡ voted
       go true true y p g z o f h e = cc
       go true false y p g z o f h e = cc
       go false a true p g z o f h e = cc
@@ -170,6 +172,23 @@ module _ (bs : Bytes) where
       go false a false true true true o f h e = rw (eqb-true (tag_in bs) 1 h)
       go false a false true true false o true h e = cc
       go false a false true true false o false h e = cc
+
+-- ---- the padding
+
+-- three bytes above another in a number are zero where it is a byte
+pub padded_is : (bs : Bytes) → are_bytes bs ≡ true → (n : ℕ) → n ≡ unsigned_at bs 36 4 → ltb n 256 ≡ eqb (unsigned_at bs 37 3) 0
+unfolding unsigned_at
+padded_is bs are n e = go (eqb (unsigned_at bs 37 3) 0) refl
+  where
+    ne_zero : {k : ℕ} → (k ≡ 0 → ⊥) → 0 < k
+    ne_zero {k} h = omega arith
+
+    below : unsigned_at bs 36 1 < 256
+    below = little-below 1 (drop 36 bs) (drop-bytes 36 bs are)
+
+    go : (b : Bool) → eqb (unsigned_at bs 37 3) 0 ≡ b → ltb n 256 ≡ b
+    go true z = let k = eqb-true (unsigned_at bs 37 3) 0 z in lt-ltb n 256 (omega (arith, e, joined_at bs 36 1 3, below))
+    go false z = let k = eqb-false (unsigned_at bs 37 3) 0 z in le-ltb n 256 (omega (arith, e, joined_at bs 36 1 3, ne_zero k))
 
 -- ---- bytes that are all zero, eight at a time
 
@@ -224,11 +243,11 @@ status_found book s = go (eqb (length book) book_size) (ltb s series_count)
     go false d = refl
 
 -- where the status is no refusal the look was allowed
-abbrev pub is_refused : Status → Bool
-is_refused S.Empty = false
-is_refused S.Untested = false
-is_refused S.Fixed = false
-is_refused (S.Refused r) = true
+abbrev pub is_refused : Result Status → Bool
+is_refused (ok S.Empty) = false
+is_refused (ok S.Untested) = false
+is_refused (ok S.Fixed) = false
+is_refused (refused r) = true
 
 pub not_refused : (book : Bytes) (s : ℕ) → is_refused (status_in (look book s)) ≡ false → Allowed book s
 unfolding look

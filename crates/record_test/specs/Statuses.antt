@@ -23,29 +23,29 @@ good_body bs = good_terms (opening_in bs).terms && good_state (opening_in bs).te
 abbrev pub good_holdings : Bytes → Bool
 good_holdings bs = good_prices (holdings_in bs) && left_by_prints (opening_in bs) (holdings_in bs)
 
--- what is stored in a record of this status; untested are the terms and the state
-abbrev pub status_as : Status → Bytes → R.Result Series
-status_as S.Empty bs = R.ok empty
-status_as S.Untested bs = if good_body bs then R.ok (live (opening_in bs) (holdings_in bs)) else R.refused 11
-status_as S.Fixed bs = R.ok (fixed (order_in bs) (opening_in bs) (holdings_in bs) (outcome_in bs) (fixing_time_in bs))
-status_as (S.Refused r) bs = R.refused r
+-- what is stored in a record of this status, or the refusal; untested are the terms and the state
+abbrev pub status_as : R.Result Status → Bytes → R.Result Series
+status_as (R.ok S.Empty) bs = R.ok empty
+status_as (R.ok S.Untested) bs = if good_body bs then R.ok (live (opening_in bs) (holdings_in bs)) else R.refused 11
+status_as (R.ok S.Fixed) bs = R.ok (fixed (order_in bs) (opening_in bs) (holdings_in bs) (outcome_in bs) (fixing_time_in bs))
+status_as (R.refused r) bs = R.refused r
 
--- the status of a record's bytes
-abbrev pub status_of : Bytes → Status
+-- the status of a record's bytes, or 11
+abbrev pub status_of : Bytes → R.Result Status
 status_of bs =
-    if eqb (tag_in bs) 0 then (if all_zero bs then S.Empty else S.Refused 11) else
-    if ltb 3 (tag_in bs) then S.Refused 11 else
-    if not (eqb (unsigned_at bs 37 3) 0) then S.Refused 11 else
-    if not (good_holdings bs) then S.Refused 11 else
-    if eqb (tag_in bs) 1 then (if every (open_tests bs) then S.Untested else S.Refused 11) else
-    if good_body bs && every (fixed_tests bs) then S.Fixed else S.Refused 11
+    if eqb (tag_in bs) 0 then (if all_zero bs then R.ok S.Empty else R.refused 11) else
+    if ltb 3 (tag_in bs) then R.refused 11 else
+    if not (eqb (unsigned_at bs 37 3) 0) then R.refused 11 else
+    if not (good_holdings bs) then R.refused 11 else
+    if eqb (tag_in bs) 1 then (if every (open_tests bs) then R.ok S.Untested else R.refused 11) else
+    if good_body bs && every (fixed_tests bs) then R.ok S.Fixed else R.refused 11
 
 -- ---- a record of the book
 
 -- the status of the record that a look gave, or the look's refusal
-abbrev pub status_in : R.Result Bytes → Status
+abbrev pub status_in : R.Result Bytes → R.Result Status
 status_in (R.ok bytes) = status_of bytes
-status_in (R.refused r) = S.Refused r
+status_in (R.refused r) = R.refused r
 
 -- the series of a record's bytes that a look gave, or the look's refusal
 abbrev pub stored_in : R.Result Bytes → R.Result Series

@@ -5,16 +5,16 @@ ghost use Rattle.core_decide.specs.Decisions.{decision_of, order_of};
 ghost use Rattle.record_test.specs.Statuses.{decision_in};
 
 use book::look::RECORD_SIZE;
-use core_decide::decide::{DecisionResult, Order, decide_by};
+use core_decide::decide::{Decision, Order, decide_by};
 use core_terms::error::CoreError;
-use fields::read::u8_at;
+use endian::LittleEndian;
 use record_read::contents::read_contents;
 
 // The order that a record is decided by: the old one under tag 2, else the voted one (#109).
 fn order_in(bytes: &[u8]) -> Order
     ensures { order_of result ≡ order_in bytes.now }
 {
-    if u8_at(bytes, 0) == 2 {
+    if u8::read(bytes, 0) == 2 {
         return Order::Old;
     }
     Order::Voted
@@ -22,11 +22,11 @@ fn order_in(bytes: &[u8]) -> Order
 
 // The core's decision on the fields, by the record's order; bytes of another length are refused with
 // 11. The fields are read here and not handed in: a state that is passed on twice is copied.
-pub fn decide_in(bytes: &[u8], now: i64) -> DecisionResult
+pub fn decide_in(bytes: &[u8], now: i64) -> Result<Decision, CoreError>
     ensures { decision_of result ≡ decision_in bytes.now now }
 {
     if bytes.len() != RECORD_SIZE {
-        return DecisionResult::Err(CoreError::InvariantViolated);
+        return Err(CoreError::InvariantViolated);
     }
     let c = read_contents(bytes);
     let state = c.state;

@@ -1,26 +1,27 @@
 // Records as they are found in the book.
-ghost use Rattle.std.specs.Prelude.{◌≡◌, ◌&&◌, length};
+ghost use Rattle.std.specs.Prelude.{◌≡◌, ◌&&◌, eqb, length};
 ghost use Rattle.rules.specs.Log.{every};
-ghost use Rattle.rules.specs.Bytes.{all_zero};
+ghost use Rattle.rules.specs.Bytes.{all_zero, unsigned_at};
 ghost use Rattle.rules.specs.Record.{record_size, open_tests, fixed_tests, outcome_tests, standing};
 ghost use Rattle.rules.specs.Book.{look};
 ghost use Rattle.core_decide.specs.Decisions.{answer_of};
-ghost use Rattle.record_test.specs.Statuses.{good_body, status_of, status_in};
+ghost use Rattle.book.specs.Refusals.{found_of};
+ghost use Rattle.record_test.specs.Statuses.{good_body, good_holdings, status_of, status_in};
 
 use crate::decide::decide_in;
-use book::look::{LookResult, look, look_result};
-use core_decide::decide::{Decision, DecisionResult, SettleMethod};
-use fields::read::{i64_at, u8_at, u16_at, u24_at, u64_at};
+use book::look::{look, look_result};
+use book::refusal::Refusal;
+use core_decide::decide::{Decision, SettleMethod};
+use endian::LittleEndian;
 use record_holdings::holdings::holdings_stand;
 
-// What a record is found to be. Of an open one, the terms are still to be tested, and the candidates
-// by `restore`'s test: the core's calls do that, and their 12 or 11 is the book's 11.
+// What an acceptable record is found to be. Of an open one, the terms are still to be tested, and the
+// candidates by `restore`'s test: the core's calls do that, and their 12 or 11 is the book's 11.
 #[derive(Clone, Copy)]
 pub enum Status {
     Empty,
     Untested,
     Fixed,
-    Refused(u8),
 }
 
 // ---- the tests
@@ -32,41 +33,36 @@ fn all_zero(bytes: &[u8]) -> bool
 {
     let n = bytes.len() / 8;
     let mut seen: u64 = 0;
-    let mut i = 0;
-    while i < n {
-        seen = seen | u64_at(bytes, 8 * i);
-        i += 1;
+    for i in 0..n {
+        seen |= u64::read(bytes, 8 * i);
     }
-    (seen | u64_at(bytes, 8 * n)) == 0
+    (seen | u64::read(bytes, 8 * n)) == 0
+}
+
+// Whether bytes 37 to 39 are zero: they stand above the method in one number.
+fn is_padded(bytes: &[u8]) -> bool
+    ensures { result ≡ eqb (unsigned_at bytes.now 37 3) 0 }
+{
+    u32::read(bytes, 36) < 256
 }
 
 // No outcome: samples, method, fixing time and price zero.
 fn no_outcome(bytes: &[u8]) -> bool
     ensures { result ≡ every (open_tests bytes.now) }
 {
-    if u16_at(bytes, 10) != 0 {
-        return false;
-    }
-    if u8_at(bytes, 36) != 0 {
-        return false;
-    }
-    if u64_at(bytes, 184) != 0 {
-        return false;
-    }
-    u64_at(bytes, 192) == 0
+    u16::read(bytes, 10) == 0
+        && u8::read(bytes, 36) == 0
+        && u64::read(bytes, 184) == 0
+        && u64::read(bytes, 192) == 0
 }
 
 // Whether these samples, this method and this price stand in the record.
 fn same(bytes: &[u8], samples: u16, method: u8, price: u64) -> bool
     ensures { result ≡ every (outcome_tests bytes.now samples method price) }
 {
-    if u16_at(bytes, 10) != samples {
-        return false;
-    }
-    if u8_at(bytes, 36) != method {
-        return false;
-    }
-    u64_at(bytes, 192) == price
+    u16::read(bytes, 10) == samples
+        && u8::read(bytes, 36) == method
+        && u64::read(bytes, 192) == price
 }
 
 // Whether the decision is final and is what stands in the record.
@@ -91,50 +87,37 @@ fn is_fixed(bytes: &[u8]) -> bool
     requires { length bytes.now ≡ record_size }
     ensures { result ≡ good_body bytes.now && every (fixed_tests bytes.now) }
 {
-    let DecisionResult::Ok(d) = decide_in(bytes, i64_at(bytes, 184)) else {
+    let Ok(d) = decide_in(bytes, i64::read(bytes, 184)) else {
         return false;
     };
     stands(bytes, d)
 }
 
-fn status_of(bytes: &[u8]) -> Status
+// Whether it could be a record in use: its padding is zero, and it holds what prints leave.
+fn is_left(bytes: &[u8]) -> bool
     requires { length bytes.now ≡ record_size }
-    ensures { result ≡ status_of bytes.now }
+    ensures { result ≡ eqb (unsigned_at bytes.now 37 3) 0 && good_holdings bytes.now }
 {
-    let tag = u8_at(bytes, 0);
-    if tag == 0 {
-        if all_zero(bytes) {
-            return Status::Empty;
-        }
-        return Status::Refused(11);
+    is_padded(bytes) && holdings_stand(bytes)
+}
+
+fn status_of(bytes: &[u8]) -> Result<Status, Refusal>
+    requires { length bytes.now ≡ record_size }
+    ensures { found_of result ≡ status_of bytes.now }
+{
+    let tag = u8::read(bytes, 0);
+    match tag {
+        0 if all_zero(bytes) => Ok(Status::Empty),
+        1 if is_left(bytes) && no_outcome(bytes) => Ok(Status::Untested),
+        2 | 3 if is_left(bytes) && is_fixed(bytes) => Ok(Status::Fixed),
+        _ => Err(Refusal::InvariantViolated),
     }
-    if 3 < tag {
-        return Status::Refused(11);
-    }
-    if u24_at(bytes, 37) != 0 {
-        return Status::Refused(11);
-    }
-    if !holdings_stand(bytes) {
-        return Status::Refused(11);
-    }
-    if tag == 1 {
-        if no_outcome(bytes) {
-            return Status::Untested;
-        }
-        return Status::Refused(11);
-    }
-    if is_fixed(bytes) {
-        return Status::Fixed;
-    }
-    Status::Refused(11)
 }
 
 // What the record of a series is: 35, 34, and 11 where it is not acceptable.
-pub fn status_at(book: &[u8], series: u8) -> Status
-    ensures { result ≡ status_in (look book.now series) }
+pub fn status_at(book: &[u8], series: u8) -> Result<Status, Refusal>
+    ensures { found_of result ≡ status_in (look book.now series) }
 {
-    match look_result(book, series) {
-        LookResult::Ok => status_of(look(book, series)),
-        LookResult::Refused(n) => Status::Refused(n),
-    }
+    look_result(book, series)?;
+    status_of(look(book, series))
 }

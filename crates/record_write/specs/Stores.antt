@@ -20,8 +20,8 @@ seconds_fields t bits number =
     bytes 4 t.window ∷ bytes 4 t.slot ∷ bytes 4 t.delay ∷ bytes 4 t.lookback ∷ bytes 4 t.hard ∷ bytes 4 bits
     ∷ bytes 1 number ∷ zeros 3 ∷ []
 
-abbrev pub sum_fields : ℤ → ℕ → ℕ → List Bytes
-sum_fields E low high = signed_bytes 8 E ∷ bytes 8 low ∷ bytes 8 high ∷ []
+abbrev pub sum_fields : ℤ → ℕ → List Bytes
+sum_fields E sum = signed_bytes 8 E ∷ bytes 16 sum ∷ []
 
 abbrev pub last_fields : ℤ → ℕ → ℤ → ℤ → ℤ → ℤ → ℕ → List Bytes
 last_fields fallback_time fallback_price window_changed link_changed fallback_changed fixing_time price =

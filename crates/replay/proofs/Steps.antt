@@ -1,7 +1,7 @@
 -- One more entry.
+use Rattle.std.specs.Prelude.{Some}
 use Prim.Native.Nat.{ℕ, ◌+◌}
 use mathlib.Core.Path.{◌≡◌, refl}
-use mathlib.Core.Option.{some}
 use mathlib.Core.List.{List}
 use native.Mathlib.Numerals.{add-one}
 use lib.ListN.{get_or}
@@ -14,5 +14,5 @@ module _ (bs : Bytes) (ends : List ℕ) (i : ℕ) where
   -- a book that the first i entries left, and what it answers to the next
   pub next : {from : ℕ} {book after : Bytes} {a : Answer} → from ≡ start_of ends i → book ≡ run (entries_to bs ends i)
       → a ≡ answer_to book (cut from (get_or ends i 0) bs) → after ≡ book_after book (cut from (get_or ends i 0) bs)
-      → (get_or ends i 0 ≡ start_of ends (i + 1)) × (after ≡ run (entries_to bs ends (i + 1))) × (some a ≡ last_answer (entries_to bs ends (i + 1)))
+      → (get_or ends i 0 ≡ start_of ends (i + 1)) × (after ≡ run (entries_to bs ends (i + 1))) × (Some a ≡ last_answer (entries_to bs ends (i + 1)))
   next f b r s = rw add-one (refl, (cc), (cc))

@@ -1,6 +1,5 @@
 -- A list of entries, as bytes one after the other and where each of them ends.
-use Rattle.std.specs.Prelude.{ℕ, zero, suc, ◌-◌, List, length, get_or, take, drop}
-use Rattle.std.proofs.Math.Option.{Option, none, some}
+use Rattle.std.specs.Prelude.{ℕ, zero, suc, ◌-◌, List, length, get_or, take, drop, Option, Some, None}
 use Rattle.rules.specs.Log.{Log, ε, ◌▹◌}
 use Rattle.rules.specs.Bytes.{Bytes}
 use Rattle.rules.specs.Answers.{Answer}
@@ -25,5 +24,5 @@ entries_of bs ends = entries_to bs ends (length ends)
 
 -- what the last entry is answered
 abbrev pub last_answer : Log Bytes → Option Answer
-last_answer ε = none
-last_answer (l ▹ e) = some (answered l e)
+last_answer ε = None
+last_answer (l ▹ e) = Some (answered l e)

@@ -1,9 +1,8 @@
 -- The ledger's state passes `restore`'s test: 11 never comes of a book that began zeroed.
-use Rattle.std.specs.Prelude.{if◌then◌else◌}
+use Rattle.std.specs.Prelude.{if◌then◌else◌, Option, None, Some}
 use Prim.Native.Nat.{ℕ, zero, suc, ◌+◌, ◌^◌, ◌<◌, ◌≤◌}
 use mathlib.Core.Path.{◌≡◌, refl, sym, ◌∙◌}
 use mathlib.Core.Bool.{Bool, true, false, ◌&&◌, beq}
-use mathlib.Core.Option.{Option, none, some}
 use mathlib.Core.List.{List, [], ◌∷◌}
 use native.Mathlib.Omega.{arith}
 use lib.ListN.{get_or}
@@ -82,8 +81,8 @@ module _ (o : Opening) (es : Log Event) (h : all (of_prints good) es ≡ true) w
   sum_with_bits = zero_together (slots o.terms) _ _ (λ i. go i (holder o es i) (holder-all o good es i h))
     where
       go : (i : ℕ) (x : Option Posting) → maybe true good x ≡ true → eqb (maybe 0 (λ p. 2 ^ i) x) 0 ≡ eqb (maybe 0 (λ p. p.print.price) x) 0
-      go i none e = refl
-      go i (some p) e =
+      go i None e = refl
+      go i (Some p) e =
           let q = ltb-true 0 p.print.price (good_positive p.print e).0 in
           let w = pow_pos i in
           rw (ne_eqb (2 ^ i) 0 (omega arith), ne_eqb p.print.price 0 (omega arith))
@@ -93,8 +92,8 @@ module _ (o : Opening) (es : Log Event) (h : all (of_prints good) es ≡ true) w
   fallback_both = go (first (greatest o ps) ps) (first-all (greatest o ps) good ps (prints-all good es h))
     where
       go : (f : Option Posting) → maybe true good f ≡ true → eq_z (maybe (pos 0) (λ p. p.print.published) f) (pos 0) ≡ eqb (maybe 0 (λ p. p.print.price) f) 0
-      go none e = refl
-      go (some p) e =
+      go None e = refl
+      go (Some p) e =
           let (q, l, _) = good_positive p.print e in
           let q = ltb-true 0 p.print.price q in
           rw (lt_true (pos 0) p.print.published l, ne_eqb p.print.price 0 (omega arith))
@@ -151,8 +150,8 @@ module _ (o : Opening) (es : Log Event) (h : all (of_prints good) es ≡ true) w
     slot-priced i l = rw (price_at_lem i l) (go (ltb i (slots o.terms)) refl)
       where
         priced : (x : Option Posting) → maybe true good x ≡ true → beq (is_some x) (ltb 0 (maybe 0 (λ p. p.print.price) x)) ≡ true
-        priced none e = refl
-        priced (some p) e = rw (good_positive p.print e).0
+        priced None e = refl
+        priced (Some p) e = rw (good_positive p.print e).0
 
         go : (b : Bool) → ltb i (slots o.terms) ≡ b
             → beq (bit i (candidates o es).bits) (ltb 0 (if b then maybe 0 (λ p. p.print.price) (holder o es i) else 0)) ≡ true
@@ -176,18 +175,18 @@ pub ledger_sound : (j : Log Command) → all command_fits j ≡ true → sound (
 unfolding ledger taken_events
 ledger_sound j h = go (opening j) (freeze j) refl refl
   where
-    left : (o : Opening) (j : Log Command) → opening j ≡ some o → all event_fits (events j) ≡ true → left_by_prints o (holdings o (events j)) ≡ true
+    left : (o : Opening) (j : Log Command) → opening j ≡ Some o → all event_fits (events j) ≡ true → left_by_prints o (holdings o (events j)) ≡ true
     left o j e f =
         left_by_prints_lem o (events j) (events_good j) (all_mono event_fits (of_prints small) prints_small (events j) f) (no_prints j o e)
 
     go : (o : Option Opening) (z : Option Freeze) → opening j ≡ o → freeze j ≡ z
         → sound (maybe empty (λ q. since q (holdings q (maybe (events j) (λ y. events y.ahead) z)) z) o) ≡ true
-    go none z e f = refl
-    go (some o) none e f =
+    go None z e f = refl
+    go (Some o) None e f =
         let g = opening_good j o e in
         let c = candidates_fit_lem o (events j) g (events_fit j h) in
         rw (g, candidates_good o (events j) (events_good j) c, prices_good o (events j) (events_good j) (few_slots o g), left o j e (events_fit j h))
-    go (some o) (some z) e f =
+    go (Some o) (Some z) e f =
         let (a, n) = freeze-fits z j h f in
         let g = opening_good j o e in
         let es = events z.ahead in

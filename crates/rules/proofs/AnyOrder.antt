@@ -1,9 +1,8 @@
 -- Two series that were posted the same prints of one feed hold the same slots and the same fallback, in whatever order the prints came.
-use Rattle.std.specs.Prelude.{if◌then◌else◌}
+use Rattle.std.specs.Prelude.{if◌then◌else◌, Option, None, Some}
 use Prim.Native.Nat.{ℕ, ◌^◌, ◌<◌}
 use mathlib.Core.Path.{◌≡◌, refl, sym, ap, ap₂, ◌∙◌}
 use mathlib.Core.Bool.{Bool, true, false, not, ◌&&◌, ◌||◌}
-use mathlib.Core.Option.{Option, none, some}
 use native.Mathlib.Omega.{arith}
 use lib.IntN.{ℤ, pos, ◌+ℤ◌, ◌-ℤ◌}
 use lib.Signed.{lt_z, le_z}
@@ -41,7 +40,7 @@ module _ (feed : Log Quote) (f : is_feed feed ≡ true) (o : Opening) where
 
   -- ---- what is found in a log
 
-  slot_over : (l : Log Posting) (i : ℕ) (p : Posting) → first_for o i l ≡ some p → over (boundary o.terms o.expiry i) p.print
+  slot_over : (l : Log Posting) (i : ℕ) (p : Posting) → first_for o i l ≡ Some p → over (boundary o.terms o.expiry i) p.print
   unfolding canonical
   slot_over l i p e =
       let tests = canonical_tests o.terms o.expiry i p.print in
@@ -51,7 +50,7 @@ module _ (feed : Log Quote) (f : is_feed feed ≡ true) (o : Opening) where
   also_qualified : (p r : Posting) → r.print ≡ p.print → qualified o p ≡ true → qualified o r ≡ true
   also_qualified p r same q = ap (qualifies o.terms o.expiry) same ∙ q
 
-  fallback_over : (l : Log Posting) (p : Posting) → fallback o l ≡ some p → over p.print.published p.print
+  fallback_over : (l : Log Posting) (p : Posting) → fallback o l ≡ Some p → over p.print.published p.print
   unfolding qualifies
   fallback_over l p e =
       let x = p.print in
@@ -101,13 +100,13 @@ module _ (feed : Log Quote) (f : is_feed feed ≡ true) (o : Opening) where
       let same : ok p.print ≡ ok r.print = sym e ∙ ap (accept o.terms.exponent o.bps) one ∙ d in
       cc
 
-  module _ (j k : Log Command) (opened : opening k ≡ some o) (there : (q : Quote) → Among q (used j) → Among q (offers k)) where
+  module _ (j k : Log Command) (opened : opening k ≡ Some o) (there : (q : Quote) → Among q (used j) → Among q (offers k)) where
     also : (p : Posting) → Source o j p → Taken k p.print
     also p (q, u, e, t) = offer_taken o q p.print e t k opened (there q u)
 
     -- ---- a slot
 
-    slot_also : (i : ℕ) (p : Posting) → Source o j p → first_for o i (ps j) ≡ some p → first_for o i (ps k) ≡ none → ⊥
+    slot_also : (i : ℕ) (p : Posting) → Source o j p → first_for o i (ps j) ≡ Some p → first_for o i (ps k) ≡ None → ⊥
     slot_also i p s e n =
         let (r, m, same) = also p s in
         let is : is_for i r ≡ true = ap (canonical o.terms o.expiry i) same ∙ first_some (is_for i) (ps j) p e in
@@ -115,14 +114,14 @@ module _ (feed : Log Quote) (f : is_feed feed ≡ true) (o : Opening) where
 
     -- ---- the fallback
 
-    fallback_also : (p : Posting) → Source o j p → fallback o (ps j) ≡ some p → fallback o (ps k) ≡ none → ⊥
+    fallback_also : (p : Posting) → Source o j p → fallback o (ps j) ≡ Some p → fallback o (ps k) ≡ None → ⊥
     fallback_also p s e n =
         let (r, m, same) = also p s in
         let is = also_qualified p r same (bound o (ps j) p e).0 in
         not_both (all_among (λ q. not (qualified o q)) (ps k) r m (no_fallback_lem o (ps k) n)) (rw is)
 
     -- it is no later than the other's
-    no_later : (p r : Posting) → Source o j p → fallback o (ps j) ≡ some p → fallback o (ps k) ≡ some r → le_z p.print.published r.print.published ≡ true
+    no_later : (p r : Posting) → Source o j p → fallback o (ps j) ≡ Some p → fallback o (ps k) ≡ Some r → le_z p.print.published r.print.published ≡ true
     no_later p r s e d =
         let (x, m, same) = also p s in
         let is = also_qualified p x same (bound o (ps j) p e).0 in
@@ -152,33 +151,33 @@ module _ (feed : Log Quote) (f : is_feed feed ≡ true) (o : Opening) where
     slots_same {A} d v i l =
         rw (unfreed o j a.opened a.untouched i l, unfreed o k c.opened c.untouched i l) (go (first_for o i (ps j)) (first_for o i (ps k)) refl refl)
       where
-        of_j : (p : Posting) → first_for o i (ps j) ≡ some p → Source o j p
+        of_j : (p : Posting) → first_for o i (ps j) ≡ Some p → Source o j p
         of_j p e = slot_source o j a.opened a.untouched rj p i l e
 
-        of_k : (p : Posting) → first_for o i (ps k) ≡ some p → Source o k p
+        of_k : (p : Posting) → first_for o i (ps k) ≡ Some p → Source o k p
         of_k p e = slot_source o k c.opened c.untouched rk p i l e
 
         go : (x y : Option Posting) → first_for o i (ps j) ≡ x → first_for o i (ps k) ≡ y → maybe d (λ p. v p.print) x ≡ maybe d (λ p. v p.print) y
-        go none none e g = refl
-        go (some p) none e g = absurd (slot_also j k c.opened same.there i p (of_j p e) e g)
-        go none (some r) e g = absurd (slot_also k j a.opened same.back i r (of_k r g) g e)
-        go (some p) (some r) e g =
+        go None None e g = refl
+        go (Some p) None e g = absurd (slot_also j k c.opened same.there i p (of_j p e) e g)
+        go None (Some r) e g = absurd (slot_also k j a.opened same.back i r (of_k r g) g e)
+        go (Some p) (Some r) e g =
             ap v (same-print j k a c (boundary o.terms o.expiry i) p r (of_j p e) (of_k r g) (slot_over (ps j) i p e) (slot_over (ps k) i r g))
 
     fallback-same : {A : Type 0} (d : A) (v : Print → A) → maybe d (λ p. v p.print) (fallback o (ps j)) ≡ maybe d (λ p. v p.print) (fallback o (ps k))
     fallback-same {A} d v = go (fallback o (ps j)) (fallback o (ps k)) refl refl
       where
-        of_j : (p : Posting) → fallback o (ps j) ≡ some p → Source o j p
+        of_j : (p : Posting) → fallback o (ps j) ≡ Some p → Source o j p
         of_j p e = fallback_source o j a.opened a.untouched rj p e
 
-        of_k : (p : Posting) → fallback o (ps k) ≡ some p → Source o k p
+        of_k : (p : Posting) → fallback o (ps k) ≡ Some p → Source o k p
         of_k p e = fallback_source o k c.opened c.untouched rk p e
 
         go : (x y : Option Posting) → fallback o (ps j) ≡ x → fallback o (ps k) ≡ y → maybe d (λ p. v p.print) x ≡ maybe d (λ p. v p.print) y
-        go none none e g = refl
-        go (some p) none e g = absurd (fallback_also j k c.opened same.there p (of_j p e) e g)
-        go none (some r) e g = absurd (fallback_also k j a.opened same.back r (of_k r g) g e)
-        go (some p) (some r) e g =
+        go None None e g = refl
+        go (Some p) None e g = absurd (fallback_also j k c.opened same.there p (of_j p e) e g)
+        go None (Some r) e g = absurd (fallback_also k j a.opened same.back r (of_k r g) g e)
+        go (Some p) (Some r) e g =
             let x = no_later j k c.opened same.there p r (of_j p e) e g in
             let y = no_later k j a.opened same.back r p (of_k r g) g e in
             let at : p.print.published ≡ r.print.published = both_le p.print.published r.print.published (rw (x, y)) in

@@ -1,9 +1,8 @@
 -- What prints always leave: the ledger's holdings pass #111's tests. And the last of these follows from the others.
-use Rattle.std.specs.Prelude.{if◌then◌else◌}
+use Rattle.std.specs.Prelude.{if◌then◌else◌, Option, None, Some}
 use Prim.Native.Nat.{ℕ, suc, ◌*◌, ◌<◌, ◌≤◌, ◌^◌}
 use mathlib.Core.Path.{◌≡◌, refl}
 use mathlib.Core.Bool.{Bool, true, false, not, ◌&&◌, ◌||◌}
-use mathlib.Core.Option.{Option, none, some}
 use mathlib.Core.List.{[], ◌∷◌}
 use native.Mathlib.Omega.{arith}
 use native.Mathlib.Nat.{mul-le-mul_right}
@@ -82,9 +81,9 @@ module _ (o : Opening) where
 
 -- ---- all of them
 
-no_posting : (x : Option Posting) → maybe true (λ p. false) x ≡ true → x ≡ none
-no_posting none h = refl
-no_posting (some p) h = cc
+no_posting : (x : Option Posting) → maybe true (λ p. false) x ≡ true → x ≡ None
+no_posting None h = refl
+no_posting (Some p) h = cc
 
 module _ (o : Opening) (es : Log Event) (g : all (of_prints good) es ≡ true) (low : all (of_prints small) es ≡ true)
     (late : times_fit o.terms o.expiry ≡ false → all (of_prints (λ p. false)) es ≡ true) where
@@ -99,7 +98,7 @@ module _ (o : Opening) (es : Log Event) (g : all (of_prints good) es ≡ true) (
       go true e = refl
       go false e = let n = eqb-false (size (times o ps)) 0 e in chain-expiry o ps (prints-all good es g) (omega arith)
 
-  slot-canonical : (i : ℕ) (p : Posting) → holder o es i ≡ some p → canonical o.terms o.expiry i p.print ≡ true
+  slot-canonical : (i : ℕ) (p : Posting) → holder o es i ≡ Some p → canonical o.terms o.expiry i p.print ≡ true
   unfolding holder
   slot-canonical i p e = first_some (λ q. canonical o.terms o.expiry i q.print) (after_withdrawal o es i) p e
 
@@ -108,8 +107,8 @@ module _ (o : Opening) (es : Log Event) (g : all (of_prints good) es ≡ true) (
   slot-after i = go (ltb i (slots o.terms)) refl
     where
       at : (x : Option Posting) → holder o es i ≡ x → maybe true good x ≡ true → not (is_some x) || le_z (pos 2) (boundary o.terms o.expiry i) ≡ true
-      at none e h = refl
-      at (some p) e h =
+      at None e h = refl
+      at (Some p) e h =
           at_least_2 p.print.prev (boundary o.terms o.expiry i) (good_positive p.print h).2
           (every_at (canonical_tests o.terms o.expiry i p.print) 3 (slot-canonical i p e))
 
@@ -123,7 +122,7 @@ module _ (o : Opening) (es : Log Event) (g : all (of_prints good) es ≡ true) (
   unfolding fallback
   fallback_good = first-all (greatest o ps) good ps (prints-all good es g)
 
-  fallback-qualifies : (p : Posting) → fallback o ps ≡ some p → qualifies o.terms o.expiry p.print ≡ true
+  fallback-qualifies : (p : Posting) → fallback o ps ≡ Some p → qualifies o.terms o.expiry p.print ≡ true
   unfolding fallback greatest
   fallback-qualifies p e = (both (qualified o p) _ (first_some (greatest o ps) ps p e)).0
 
@@ -133,8 +132,8 @@ module _ (o : Opening) (es : Log Event) (g : all (of_prints good) es ≡ true) (
     where
       go : (x : Option Posting) → fallback o ps ≡ x → maybe true good x ≡ true
           → eqb (maybe 0 (λ p. p.print.price) x) 0 || every (fallback_time_tests o (maybe (pos 0) (λ p. p.print.published) x)) ≡ true
-      go none e h = refl
-      go (some p) e h =
+      go None e h = refl
+      go (Some p) e h =
           let q = p.print in
           let (ab, c) = both (le_z (o.expiry -ℤ pos o.terms.lookback) q.published && le_z q.published o.expiry) (lt_z q.prev q.published) (fallback-qualifies p e) in
           let (a, b) = both (le_z (o.expiry -ℤ pos o.terms.lookback) q.published) (le_z q.published o.expiry) ab in
@@ -145,8 +144,8 @@ module _ (o : Opening) (es : Log Event) (g : all (of_prints good) es ≡ true) (
   fallback_unchanged_lem = go (fallback o ps) fallback_good
     where
       go : (x : Option Posting) → maybe true good x ≡ true → not (eqb (maybe 0 (λ p. p.print.price) x) 0) || eq_z (maybe (pos 0) (λ p. p.now) x) (pos 0) ≡ true
-      go none h = refl
-      go (some p) h = let l = ltb-true 0 p.print.price (good_positive p.print h).0 in rw (ne_eqb p.print.price 0 (omega arith))
+      go None h = refl
+      go (Some p) h = let l = ltb-true 0 p.print.price (good_positive p.print h).0 in rw (ne_eqb p.print.price 0 (omega arith))
 
   link_unchanged_lem : link_unchanged (holdings o es) ≡ true
   unfolding candidates
@@ -159,8 +158,8 @@ module _ (o : Opening) (es : Log Event) (g : all (of_prints good) es ≡ true) (
   -- ---- prices
 
   maybe_low : (x : Option Posting) → maybe true small x ≡ true → low_price (maybe 0 (λ p. p.print.price) x) ≡ true
-  maybe_low none h = refl
-  maybe_low (some p) h = h
+  maybe_low None h = refl
+  maybe_low (Some p) h = h
 
   slots_low : low_slots (holdings o es) ≡ true
   unfolding low_slots slot_prices
@@ -190,7 +189,7 @@ module _ (o : Opening) (es : Log Event) (g : all (of_prints good) es ≡ true) (
           let a = late e in
           let held : (i : ℕ) → i < slots o.terms → maybe 0 (λ p. 2 ^ i) (holder o es i) ≡ 0 = λ i l. rw (no_posting (holder o es i) (holder-all o (λ p. false) es i a)) in
           let linked : chain o ps ≡ ε = empty_log (chain o ps) (chain-all o (λ p. false) ps (prints-all (λ p. false) es a)) in
-          let fell : fallback o ps ≡ none = no_posting (fallback o ps) (first-all (greatest o ps) (λ p. false) ps (prints-all (λ p. false) es a)) in
+          let fell : fallback o ps ≡ None = no_posting (fallback o ps) (first-all (greatest o ps) (λ p. false) ps (prints-all (λ p. false) es a)) in
           rw (Σ<_ext (slots o.terms) (λ i. maybe 0 (λ p. 2 ^ i) (holder o es i)) (λ i. 0) held, Σ<_zero (slots o.terms), linked, fell)
         where
           empty_log : (l : Log Posting) → all (λ p. false) l ≡ true → l ≡ ε

@@ -1,8 +1,8 @@
 -- 01, "Fixings to hold by hand": P1 to P12, computed over the definitions.
+use Rattle.std.specs.Prelude.{None, Some}
 use Prim.Native.Nat.{ℕ, ◌-◌, ◌^◌}
 use mathlib.Core.Path.{◌≡◌, refl}
 use mathlib.Core.Bool.{true, false}
-use mathlib.Core.Option.{none, some}
 use mathlib.Core.List.{List, [], ◌∷◌}
 use lib.IntN.{pos, neg_ℤ}
 use Rattle.rules.specs.Log.{Log, ε, ◌▹◌}
@@ -92,13 +92,13 @@ said : List Fixing
 said =
     answers (Refused 12 ∷ Opened ∷ [])
     ∷ answers (Refused 12 ∷ Opened ∷ [])
-    ∷ answers (Used none none true ∷ [])
-    ∷ answers (Used none none true ∷ [])
-    ∷ answers (Used none none true ∷ [])
-    ∷ answers (Used none (some 0) false ∷ [])
-    ∷ answers (Used (some 0) none true ∷ Refused 17 ∷ [])
+    ∷ answers (Used None None true ∷ [])
+    ∷ answers (Used None None true ∷ [])
+    ∷ answers (Used None None true ∷ [])
+    ∷ answers (Used None (Some 0) false ∷ [])
+    ∷ answers (Used (Some 0) None true ∷ Refused 17 ∷ [])
     ∷ answers (Wait (pos 1000) ∷ Wait (pos 1100) ∷ Wait (pos 1105) ∷ Answer.Void ∷ [])
-    ∷ answers (Used (some 0) none true ∷ Used (some 1) none true ∷ Used (some 2) none true ∷ Used (some 3) none true ∷ Refused 0 ∷ [])
+    ∷ answers (Used (Some 0) None true ∷ Used (Some 1) None true ∷ Used (Some 2) None true ∷ Used (Some 3) None true ∷ Refused 0 ∷ [])
     ∷ means (ok 2 ∷ ok 1 ∷ [])
     ∷ means (ok 0 ∷ ok 1 ∷ [])
     ∷ means (ok (2 ^ 64 - 1) ∷ refused 0 ∷ []) ∷ []

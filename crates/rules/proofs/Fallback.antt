@@ -1,8 +1,7 @@
 -- One more taken print: the first print with the greatest qualifying pub.
-use Rattle.std.specs.Prelude.{if◌then◌else◌}
+use Rattle.std.specs.Prelude.{if◌then◌else◌, Option, None, Some}
 use mathlib.Core.Path.{◌≡◌, refl, sym, ◌∙◌}
 use mathlib.Core.Bool.{Bool, true, false, not, ◌&&◌, ◌||◌}
-use mathlib.Core.Option.{Option, none, some}
 use lib.IntN.{pos}
 use lib.Signed.{lt_z, le_z}
 use borrow.Author.Tests.{not-true}
@@ -17,14 +16,14 @@ use Rattle.rules.specs.Ledger.{Posting, Event, prints, candidates, qualified, gr
 module _ (o : Opening) where
   -- p comes after the best so far
   beats : Option Posting → Posting → Bool
-  beats none p = true
-  beats (some q) p = lt_z q.print.published p.print.published
+  beats None p = true
+  beats (Some q) p = lt_z q.print.published p.print.published
 
   abbrev pub unqualified : Log Posting → Bool
   unqualified ps = all (λ q. not (qualified o q)) ps
 
   -- it qualifies, and no print that does is later
-  pub bound : (ps : Log Posting) (q : Posting) → fallback o ps ≡ some q
+  pub bound : (ps : Log Posting) (q : Posting) → fallback o ps ≡ Some q
       → (qualified o q ≡ true) × (all (λ x. not (qualified o x) || le_z x.print.published q.print.published) ps ≡ true)
   unfolding fallback greatest
   bound ps q e = both (qualified o q) (all (λ x. not (qualified o x) || le_z x.print.published q.print.published) ps) (first_some (greatest o ps) ps q e)
@@ -38,7 +37,7 @@ module _ (o : Opening) where
         (or_else_none (first (greatest o ps) ps))
 
     -- none so far: the first that qualifies is it
-    begun : qualified o p ≡ true → unqualified ps ≡ true → fallback o (ps ▹ p) ≡ some p
+    begun : qualified o p ≡ true → unqualified ps ≡ true → fallback o (ps ▹ p) ≡ Some p
     unfolding fallback greatest
     begun q u =
         rw (
@@ -48,9 +47,9 @@ module _ (o : Opening) where
           le_refl p.print.published,
         )
 
-    module _ (q : Posting) (e : fallback o ps ≡ some q) where
+    module _ (q : Posting) (e : fallback o ps ≡ Some q) where
       -- a later one takes its place
-      replaced : qualified o p ≡ true → lt_z q.print.published p.print.published ≡ true → fallback o (ps ▹ p) ≡ some p
+      replaced : qualified o p ≡ true → lt_z q.print.published p.print.published ≡ true → fallback o (ps ▹ p) ≡ Some p
       unfolding fallback greatest
       replaced qp l =
           rw (
@@ -69,7 +68,7 @@ module _ (o : Opening) where
           below x false n = refl
 
       -- one that isn't later doesn't
-      kept : lt_z q.print.published p.print.published ≡ false → fallback o (ps ▹ p) ≡ some q
+      kept : lt_z q.print.published p.print.published ≡ false → fallback o (ps ▹ p) ≡ Some q
       unfolding fallback greatest
       kept l =
           rw (first_stronger (greatest o ps) (greatest o (ps ▹ p)) weaker ps q e
@@ -78,40 +77,40 @@ module _ (o : Opening) where
           weaker : (x : Posting) → greatest o (ps ▹ p) x ≡ true → greatest o ps x ≡ true
           weaker x g = drop-last (qualified o x) (all (λ y. not (qualified o y) || le_z y.print.published x.print.published) ps) (not (qualified o p) || le_z p.print.published x.print.published) g
 
-  step : (ps : Log Posting) (p : Posting) (b : Option Posting) → fallback o ps ≡ b → (b ≡ none → unqualified ps ≡ true)
-      → fallback o (ps ▹ p) ≡ (if qualified o p && beats b p then some p else b)
+  step : (ps : Log Posting) (p : Posting) (b : Option Posting) → fallback o ps ≡ b → (b ≡ None → unqualified ps ≡ true)
+      → fallback o (ps ▹ p) ≡ (if qualified o p && beats b p then Some p else b)
   unfolding beats
   step ps p b e u = go (qualified o p) b refl e u
     where
-      go : (t : Bool) (b : Option Posting) → qualified o p ≡ t → fallback o ps ≡ b → (b ≡ none → unqualified ps ≡ true)
-          → fallback o (ps ▹ p) ≡ (if t && beats b p then some p else b)
+      go : (t : Bool) (b : Option Posting) → qualified o p ≡ t → fallback o ps ≡ b → (b ≡ None → unqualified ps ≡ true)
+          → fallback o (ps ▹ p) ≡ (if t && beats b p then Some p else b)
       go false b t e u = passed ps p t ∙ e
-      go true none t e u = begun ps p t (u refl)
-      go true (some q) t e u = at (lt_z q.print.published p.print.published) refl
+      go true None t e u = begun ps p t (u refl)
+      go true (Some q) t e u = at (lt_z q.print.published p.print.published) refl
         where
-          at : (l : Bool) → lt_z q.print.published p.print.published ≡ l → fallback o (ps ▹ p) ≡ (if l then some p else some q)
+          at : (l : Bool) → lt_z q.print.published p.print.published ≡ l → fallback o (ps ▹ p) ≡ (if l then Some p else Some q)
           at true l = replaced ps p q e t l
           at false l = kept ps p q e l
 
-  pub no_fallback_lem : (ps : Log Posting) → fallback o ps ≡ none → unqualified ps ≡ true
+  pub no_fallback_lem : (ps : Log Posting) → fallback o ps ≡ None → unqualified ps ≡ true
   unfolding beats
   no_fallback_lem ε e = refl
   no_fallback_lem (ps ▹ p) e =
       go (qualified o p) (fallback o ps) refl (no_fallback_lem ps) (sym (step ps p (fallback o ps) refl (no_fallback_lem ps)) ∙ e)
     where
-      go : (t : Bool) (b : Option Posting) → fallback o ps ≡ b → (fallback o ps ≡ none → unqualified ps ≡ true)
-          → (if t && beats b p then some p else b) ≡ none → unqualified ps && not t ≡ true
-      go true none f r e = cc
-      go true (some q) f r e = at (lt_z q.print.published p.print.published) e
+      go : (t : Bool) (b : Option Posting) → fallback o ps ≡ b → (fallback o ps ≡ None → unqualified ps ≡ true)
+          → (if t && beats b p then Some p else b) ≡ None → unqualified ps && not t ≡ true
+      go true None f r e = cc
+      go true (Some q) f r e = at (lt_z q.print.published p.print.published) e
         where
-          at : (l : Bool) → (if l then some p else some q) ≡ none → unqualified ps && false ≡ true
+          at : (l : Bool) → (if l then Some p else Some q) ≡ None → unqualified ps && false ≡ true
           at true e = cc
           at false e = cc
-      go false none f r e = rw (r f)
-      go false (some q) f r e = cc
+      go false None f r e = rw (r f)
+      go false (Some q) f r e = cc
 
   pub fallback_more : (es : Log Event) (p : Posting) → lt_z (pos 0) p.print.published ≡ true
-      → fallback o (prints es ▹ p) ≡ (if is_fallback o.terms o.expiry (candidates o es) p.print then some p else fallback o (prints es))
+      → fallback o (prints es ▹ p) ≡ (if is_fallback o.terms o.expiry (candidates o es) p.print then Some p else fallback o (prints es))
   unfolding candidates beats
   fallback_more es p h = go (fallback o ps) refl
     where
@@ -119,6 +118,6 @@ module _ (o : Opening) where
       ps = prints es
 
       go : (b : Option Posting) → fallback o ps ≡ b
-          → fallback o (ps ▹ p) ≡ (if qualified o p && lt_z (maybe (pos 0) (λ q. q.print.published) b) p.print.published then some p else b)
-      go none e = rw h (step ps p none e (λ z. no_fallback_lem ps e))
-      go (some q) e = step ps p (some q) e (λ z. cc)
+          → fallback o (ps ▹ p) ≡ (if qualified o p && lt_z (maybe (pos 0) (λ q. q.print.published) b) p.print.published then Some p else b)
+      go None e = rw h (step ps p None e (λ z. no_fallback_lem ps e))
+      go (Some q) e = step ps p (Some q) e (λ z. cc)

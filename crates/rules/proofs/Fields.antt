@@ -1,9 +1,8 @@
 -- Every number of the ledger's record fits its field.
-use Rattle.std.specs.Prelude.{if◌then◌else◌}
+use Rattle.std.specs.Prelude.{if◌then◌else◌, Option, None, Some}
 use Prim.Native.Nat.{ℕ, ◌*◌, ◌/◌, ◌%◌, ◌^◌, ◌<◌, ◌≤◌}
 use mathlib.Core.Path.{◌≡◌, refl, sym, ap, ◌∙◌}
 use mathlib.Core.Bool.{Bool, true, false, not, ◌||◌}
-use mathlib.Core.Option.{Option, none, some}
 use mathlib.Core.List.{List, [], ◌∷◌}
 use lib.ListN.{get_or}
 use native.Mathlib.Omega.{arith}
@@ -56,8 +55,8 @@ event_now_lem (posted p) h = every_at (posting_tests p) 2 h
 event_now_lem (withdrawal now i) h = h
 
 maybe_event : (x : Option Event) → maybe true event_fits x ≡ true → fits (maybe (pos 0) event_now x) ≡ true
-maybe_event none h = refl
-maybe_event (some e) h = event_now_lem e h
+maybe_event None h = refl
+maybe_event (Some e) h = event_now_lem e h
 
 event_prints : (e : Event) → event_fits e ≡ true → of_prints posting_fits e ≡ true
 event_prints (posted p) h = h
@@ -71,16 +70,16 @@ posting-price : (p : Posting) → posting_fits p ≡ true → fits_unsigned 8 p.
 posting-price p h = lt-ltb p.print.price (2 ^ 64) (lt_of_lt_of_le (ltb-true p.print.price (2 ^ 63) (every_at (posting_tests p) 0 h)) (omega arith))
 
 maybe-published : (x : Option Posting) → maybe true posting_fits x ≡ true → fits (maybe (pos 0) (λ p. p.print.published) x) ≡ true
-maybe-published none h = refl
-maybe-published (some p) h = every_at (posting_tests p) 1 h
+maybe-published None h = refl
+maybe-published (Some p) h = every_at (posting_tests p) 1 h
 
 maybe-now : (x : Option Posting) → maybe true posting_fits x ≡ true → fits (maybe (pos 0) (λ p. p.now) x) ≡ true
-maybe-now none h = refl
-maybe-now (some p) h = every_at (posting_tests p) 2 h
+maybe-now None h = refl
+maybe-now (Some p) h = every_at (posting_tests p) 2 h
 
 maybe-price : (x : Option Posting) → maybe true posting_fits x ≡ true → fits_unsigned 8 (maybe 0 (λ p. p.print.price) x) ≡ true
-maybe-price none h = refl
-maybe-price (some p) h = posting-price p h
+maybe-price None h = refl
+maybe-price (Some p) h = posting-price p h
 
 -- ---- the chain
 
@@ -229,29 +228,29 @@ events_fit j h = taken-all event_fits command_fits posting (λ now i f. f) j h
         let w : fits p.published ≡ true = ap (λ (x : Print). fits x.published) (sym m) ∙ every_at tests 1 f in
         rw (s, w, every_at tests 2 f)
 
-pub opening-fits : (j : Log Command) (o : Opening) → all command_fits j ≡ true → opening j ≡ some o → opening_fits o ≡ true
+pub opening-fits : (j : Log Command) (o : Opening) → all command_fits j ≡ true → opening j ≡ Some o → opening_fits o ≡ true
 unfolding opening
 opening-fits ε o h e = cc
 opening-fits (j ▹ c) o h e =
     let (a, b) = both (all command_fits j) (command_fits c) h in
     go (opening j) c refl b e (opening-fits j o a)
   where
-    go : (x : Option Opening) (c : Command) → opening j ≡ x → command_fits c ≡ true → x or_else good_open c ≡ some o
-        → (opening j ≡ some o → opening_fits o ≡ true) → opening_fits o ≡ true
-    go (some x) c d b e r = r (d ∙ e)
-    go none (Open x) d b e r = at (good_terms x.terms) e
+    go : (x : Option Opening) (c : Command) → opening j ≡ x → command_fits c ≡ true → x or_else good_open c ≡ Some o
+        → (opening j ≡ Some o → opening_fits o ≡ true) → opening_fits o ≡ true
+    go (Some x) c d b e r = r (d ∙ e)
+    go None (Open x) d b e r = at (good_terms x.terms) e
       where
-        at : (t : Bool) → (if t then some x else none) ≡ some o → opening_fits o ≡ true
+        at : (t : Bool) → (if t then Some x else None) ≡ Some o → opening_fits o ≡ true
         at true e = let y : x ≡ o = cc in rw (← y) b
         at false e = cc
-    go none (Offer q now) d b e r = cc
-    go none (Ask now) d b e r = cc
-    go none (Fix now) d b e r = cc
-    go none (Withdraw now i) d b e r = cc
+    go None (Offer q now) d b e r = cc
+    go None (Ask now) d b e r = cc
+    go None (Fix now) d b e r = cc
+    go None (Withdraw now i) d b e r = cc
 
 -- what the freeze is: a fix with commands in range ahead of it, the opening among them, and a final decision
 module _ (z : Freeze) where
-  pub freeze-fits : (j : Log Command) → all command_fits j ≡ true → freeze j ≡ some z → (all command_fits z.ahead ≡ true) × (fits z.now ≡ true)
+  pub freeze-fits : (j : Log Command) → all command_fits j ≡ true → freeze j ≡ Some z → (all command_fits z.ahead ≡ true) × (fits z.now ≡ true)
   unfolding freeze
   freeze-fits ε h e = (cc, cc)
   freeze-fits (j ▹ c) h e =
@@ -261,43 +260,43 @@ module _ (z : Freeze) where
       goal : Type 0
       goal = (all command_fits z.ahead ≡ true) × (fits z.now ≡ true)
 
-      go : (x : Option Freeze) (c : Command) → freeze j ≡ x → all command_fits j ≡ true → command_fits c ≡ true → x or_else freezes j c ≡ some z → (freeze j ≡ some z → goal) → goal
-      go (some x) c d a b e r = r (d ∙ e)
-      go none (Open x) d a b e r = (cc, cc)
-      go none (Offer q now) d a b e r = (cc, cc)
-      go none (Ask now) d a b e r = (cc, cc)
-      go none (Withdraw now i) d a b e r = (cc, cc)
-      go none (Fix now) d a b e r = at (final (decided_on (opening j) (events j) now)) e
+      go : (x : Option Freeze) (c : Command) → freeze j ≡ x → all command_fits j ≡ true → command_fits c ≡ true → x or_else freezes j c ≡ Some z → (freeze j ≡ Some z → goal) → goal
+      go (Some x) c d a b e r = r (d ∙ e)
+      go None (Open x) d a b e r = (cc, cc)
+      go None (Offer q now) d a b e r = (cc, cc)
+      go None (Ask now) d a b e r = (cc, cc)
+      go None (Withdraw now i) d a b e r = (cc, cc)
+      go None (Fix now) d a b e r = at (final (decided_on (opening j) (events j) now)) e
         where
-          at : (t : Bool) → (if t then some (record { ahead = j; now = now }) else none) ≡ some z → goal
+          at : (t : Bool) → (if t then Some (record { ahead = j; now = now }) else None) ≡ Some z → goal
           at true e = let y : ◌≡◌ {A = Freeze} (record { ahead = j; now = now }) z = cc in (rw (← y) a, rw (← y) b)
           at false e = (cc, cc)
 
-  pub freeze-final : (j : Log Command) (o : Opening) → freeze j ≡ some z → opening j ≡ some o
-      → (opening z.ahead ≡ some o) × (final (decided o (candidates o (events z.ahead)) z.now) ≡ true)
+  pub freeze-final : (j : Log Command) (o : Opening) → freeze j ≡ Some z → opening j ≡ Some o
+      → (opening z.ahead ≡ Some o) × (final (decided o (candidates o (events z.ahead)) z.now) ≡ true)
   unfolding freeze opening
   freeze-final ε o f e = (cc, cc)
   freeze-final (j ▹ c) o f e = go (opening j) (freeze j) c refl refl e f (freeze-final j o)
     where
       goal : Type 0
-      goal = (opening z.ahead ≡ some o) × (final (decided o (candidates o (events z.ahead)) z.now) ≡ true)
+      goal = (opening z.ahead ≡ Some o) × (final (decided o (candidates o (events z.ahead)) z.now) ≡ true)
 
-      go : (a : Option Opening) (y : Option Freeze) (c : Command) → opening j ≡ a → freeze j ≡ y → a or_else good_open c ≡ some o → y or_else freezes j c ≡ some z
-          → (freeze j ≡ some z → opening j ≡ some o → goal) → goal
-      go none (some y) c d g e f r = let h = no_freeze j d in (cc, cc)
-      go none none (Open q) d g e f r = (cc, cc)
-      go none none (Offer q now) d g e f r = (cc, cc)
-      go none none (Ask now) d g e f r = (cc, cc)
-      go none none (Withdraw now i) d g e f r = (cc, cc)
-      go none none (Fix now) d g e f r = let h = rw d at f in (cc, cc)
-      go (some x) (some y) c d g e f r = r (g ∙ f) (d ∙ e)
-      go (some x) none (Open q) d g e f r = (cc, cc)
-      go (some x) none (Offer q now) d g e f r = (cc, cc)
-      go (some x) none (Ask now) d g e f r = (cc, cc)
-      go (some x) none (Withdraw now i) d g e f r = (cc, cc)
-      go (some x) none (Fix now) d g e f r = at (final (decided x (candidates x (events j)) now)) refl (rw d at f)
+      go : (a : Option Opening) (y : Option Freeze) (c : Command) → opening j ≡ a → freeze j ≡ y → a or_else good_open c ≡ Some o → y or_else freezes j c ≡ Some z
+          → (freeze j ≡ Some z → opening j ≡ Some o → goal) → goal
+      go None (Some y) c d g e f r = let h = no_freeze j d in (cc, cc)
+      go None None (Open q) d g e f r = (cc, cc)
+      go None None (Offer q now) d g e f r = (cc, cc)
+      go None None (Ask now) d g e f r = (cc, cc)
+      go None None (Withdraw now i) d g e f r = (cc, cc)
+      go None None (Fix now) d g e f r = let h = rw d at f in (cc, cc)
+      go (Some x) (Some y) c d g e f r = r (g ∙ f) (d ∙ e)
+      go (Some x) None (Open q) d g e f r = (cc, cc)
+      go (Some x) None (Offer q now) d g e f r = (cc, cc)
+      go (Some x) None (Ask now) d g e f r = (cc, cc)
+      go (Some x) None (Withdraw now i) d g e f r = (cc, cc)
+      go (Some x) None (Fix now) d g e f r = at (final (decided x (candidates x (events j)) now)) refl (rw d at f)
         where
-          at : (b : Bool) → final (decided x (candidates x (events j)) now) ≡ b → (if b then some (record { ahead = j; now = now }) else none) ≡ some z → goal
+          at : (b : Bool) → final (decided x (candidates x (events j)) now) ≡ b → (if b then Some (record { ahead = j; now = now }) else None) ≡ Some z → goal
           at true h f =
               let p : ◌≡◌ {A = Freeze} (record { ahead = j; now = now }) z = cc in
               let q : x ≡ o = cc in
@@ -310,10 +309,10 @@ ledger-fits j h = go (opening j) (freeze j) refl refl
   where
     go : (o : Option Opening) (z : Option Freeze) → opening j ≡ o → freeze j ≡ z
         → series_fits (maybe empty (λ q. since q (holdings q (maybe (events j) (λ y. events y.ahead) z)) z) o) ≡ true
-    go none z e f = refl
-    go (some o) none e f =
+    go None z e f = refl
+    go (Some o) None e f =
         rw (opening-fits j o h e, candidates_fit_lem o (events j) (opening_good j o e) (events_fit j h), prices_fit_lem o (events j) (opening_good j o e) (events_fit j h))
-    go (some o) (some z) e f =
+    go (Some o) (Some z) e f =
         let (a, n) = freeze-fits z j h f in
         let es = events z.ahead in
         rw (

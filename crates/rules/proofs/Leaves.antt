@@ -1,9 +1,8 @@
 -- Every command leaves an acceptable record where it finds one, whatever made that (#111).
-use Rattle.std.specs.Prelude.{if◌then◌else◌}
+use Rattle.std.specs.Prelude.{if◌then◌else◌, Option, Some}
 use Prim.Native.Nat.{ℕ}
 use mathlib.Core.Path.{◌≡◌, refl, sym, ap, ◌∙◌}
 use mathlib.Core.Bool.{Bool, true, false, not, ◌&&◌}
-use mathlib.Core.Option.{Option, some}
 use mathlib.Core.List.{List, [], ◌∷◌}
 use native.Mathlib.Omega.{arith}
 use lib.IntN.{ℤ}
@@ -65,11 +64,11 @@ module _ (o : Opening) (h : Holdings) (f : series_fits (live o h) ≡ true) (k :
         let n = every_at tests 2 fq in
         written-stored (live o (offer_held o h now (ok p))) (placed_fits o h f k p now gp low time n tf sf) (placed_sound o h f k p now gp low time n tf sf) tt
 
-    offer_reads : (next : Series) → changed (offered o h now (accept o.terms.exponent o.bps q)) ≡ some next → Reads next
+    offer_reads : (next : Series) → changed (offered o h now (accept o.terms.exponent o.bps q)) ≡ Some next → Reads next
     unfolding print_answer
     offer_reads next = at (accept o.terms.exponent o.bps q) refl
       where
-        at : (x : Result Print) → accept o.terms.exponent o.bps q ≡ x → changed (offered o h now x) ≡ some next → Reads next
+        at : (x : Result Print) → accept o.terms.exponent o.bps q ≡ x → changed (offered o h now x) ≡ Some next → Reads next
         at (refused r) e g = cc
         at (ok p) e g = go (times_fit o.terms o.expiry) (sum_fits o.terms o.expiry c p) (not (usable o.terms o.expiry c p)) _ _ _ refl refl g
           where
@@ -77,34 +76,34 @@ module _ (o : Opening) (h : Holdings) (f : series_fits (live o h) ≡ true) (k :
             there = live o (offer_held o h now (ok p))
 
             go : (a b d : Bool) (s l : Option ℕ) (w : Bool) → times_fit o.terms o.expiry ≡ a → sum_fits o.terms o.expiry c p ≡ b
-                → (let x = if not (a && b) then Refused 0 else if d then Refused 14 else Used s l w in changed (if is_used x then leaves x there else keeps x)) ≡ some next
+                → (let x = if not (a && b) then Refused 0 else if d then Refused 14 else Used s l w in changed (if is_used x then leaves x there else keeps x)) ≡ Some next
                 → Reads next
             go false b d s l w _ _ g = cc
             go true false d s l w _ _ g = cc
             go true true true s l w _ _ g = cc
             go true true false s l w tf sf g = let same : there ≡ next = cc in rw (← same) (placed_reads p e tf sf)
 
-  fix_reads : (now : ℤ) → fits now ≡ true → (next : Series) → changed (fixing o h now (decided o c now)) ≡ some next → Reads next
+  fix_reads : (now : ℤ) → fits now ≡ true → (next : Series) → changed (fixing o h now (decided o c now)) ≡ Some next → Reads next
   fix_reads now fn next = go (final (decided o c now)) refl
     where
       there : Series
       there = fixed Order.voted o h (decided o c now) now
 
-      go : (b : Bool) → final (decided o c now) ≡ b → changed (if b then leaves (decided o c now) there else keeps (waiting (decided o c now))) ≡ some next → Reads next
+      go : (b : Bool) → final (decided o c now) ≡ b → changed (if b then leaves (decided o c now) there else keeps (waiting (decided o c now))) ≡ Some next → Reads next
       go true e g =
           let same : there ≡ next = cc in
           let fit : series_fits there ≡ true = rw (opening-fits o h f k, candidates_fit_lem o h f k, prices_fit_lem o h f k, outcome_fits_lem Order.voted o c (candidates_fit_lem o h f k) now e, fn) in
           rw (← same) (written-stored there fit (rw (k, e)) refl)
       go false e g = cc
 
-  withdraw_reads : (now : ℤ) (i : ℕ) → fits now ≡ true → (next : Series) → changed (withdrawing o h now i) ≡ some next → Reads next
+  withdraw_reads : (now : ℤ) (i : ℕ) → fits now ≡ true → (next : Series) → changed (withdrawing o h now i) ≡ Some next → Reads next
   withdraw_reads now i fn next = go (leb (slots o.terms) i) (bit i c.bits) refl refl
     where
       there : Series
       there = live o (withdrawn h now i)
 
       go : (a b : Bool) → leb (slots o.terms) i ≡ a → bit i c.bits ≡ b
-          → changed (if a then keeps (Refused 40) else if not b then keeps (Refused 41) else leaves Done there) ≡ some next → Reads next
+          → changed (if a then keeps (Refused 40) else if not b then keeps (Refused 41) else leaves Done there) ≡ Some next → Reads next
       go true b x y g = cc
       go false false x y g = cc
       go false true x y g =
@@ -116,11 +115,11 @@ module _ (o : Opening) (h : Holdings) (f : series_fits (live o h) ≡ true) (k :
 -- ---- every command, on every series whose record is acceptable
 
 pub step-leaves : (s : Series) (c : Command) → series_fits s ≡ true → sound s ≡ true → command_fits c ≡ true
-    → (next : Series) → changed (step s c) ≡ some next → stored (bytes_of next) ≡ ok next
+    → (next : Series) → changed (step s c) ≡ Some next → stored (bytes_of next) ≡ ok next
 unfolding step
 step-leaves empty (Open o) f k fc next h = go (good_terms o.terms) refl h
   where
-    go : (b : Bool) → good_terms o.terms ≡ b → changed (if b then leaves Answer.Opened (live o no_holdings) else keeps (Refused 12)) ≡ some next → stored (bytes_of next) ≡ ok next
+    go : (b : Bool) → good_terms o.terms ≡ b → changed (if b then leaves Answer.Opened (live o no_holdings) else keeps (Refused 12)) ≡ Some next → stored (bytes_of next) ≡ ok next
     go true g h = let same : live o no_holdings ≡ next = cc in rw (← same) (opened o g fc)
     go false g h = cc
 step-leaves empty (Offer q now) f k fc next h = cc

@@ -1,9 +1,8 @@
 -- Facts about logs: first, last, all, map, and the first n of a list.
-use Rattle.std.specs.Prelude.{if◌then◌else◌}
+use Rattle.std.specs.Prelude.{if◌then◌else◌, Option, None, Some}
 use Prim.Native.Nat.{ℕ, zero, suc, ◌+◌, ◌<◌, ◌≤◌}
 use mathlib.Core.Path.{◌≡◌, refl, sym, ap, ap₂, ◌∙◌, fun_ext}
 use mathlib.Core.Bool.{Bool, true, false, not, ◌&&◌}
-use mathlib.Core.Option.{Option, none, some}
 use mathlib.Core.List.{List}
 use native.Mathlib.Omega.{arith}
 use lib.ListN.{length, get_or, set, length-set}
@@ -19,58 +18,58 @@ module _ {A : Type 0} where
   all_mono P Q h ε e = refl
   all_mono P Q h (l ▹ x) e = let (a, b) = both (all P l) (P x) e in rw (all_mono P Q h l a, h x b)
 
-  pub first_none : (P : A → Bool) (l : Log A) → all (λ x. not (P x)) l ≡ true → first P l ≡ none
+  pub first_none : (P : A → Bool) (l : Log A) → all (λ x. not (P x)) l ≡ true → first P l ≡ None
   first_none P ε e = refl
   first_none P (l ▹ x) e = let (a, b) = both (all (λ y. not (P y)) l) (not (P x)) e in rw (first_none P l a) (go (P x) b)
     where
-      go : (t : Bool) → not t ≡ true → (if t then some x else none) ≡ none
+      go : (t : Bool) → not t ≡ true → (if t then Some x else None) ≡ None
       go true e = cc
       go false e = refl
 
-  pub first_some : (P : A → Bool) (l : Log A) (q : A) → first P l ≡ some q → P q ≡ true
+  pub first_some : (P : A → Bool) (l : Log A) (q : A) → first P l ≡ Some q → P q ≡ true
   first_some P ε q e = cc
   first_some P (l ▹ x) q e = go (first P l) (P x) refl refl e (λ d. first_some P l q d)
     where
-      go : (a : Option A) (t : Bool) → first P l ≡ a → P x ≡ t → a or_else (if t then some x else none) ≡ some q → (first P l ≡ some q → P q ≡ true) → P q ≡ true
-      go (some y) t d f e r = r (d ∙ e)
-      go none true d f e r = let g : x ≡ q = cc in ap P (sym g) ∙ f
-      go none false d f e r = cc
+      go : (a : Option A) (t : Bool) → first P l ≡ a → P x ≡ t → a or_else (if t then Some x else None) ≡ Some q → (first P l ≡ Some q → P q ≡ true) → P q ≡ true
+      go (Some y) t d f e r = r (d ∙ e)
+      go None true d f e r = let g : x ≡ q = cc in ap P (sym g) ∙ f
+      go None false d f e r = cc
 
   pub first_ext : (P Q : A → Bool) → ((x : A) → P x ≡ Q x) → (l : Log A) → first P l ≡ first Q l
   first_ext P Q h l = ap (λ (R : A → Bool). first R l) (fun_ext h)
 
   -- a stronger test finds nothing where a weaker one finds nothing
-  pub first_weaker : (P Q : A → Bool) → ((x : A) → Q x ≡ true → P x ≡ true) → (l : Log A) → first P l ≡ none → first Q l ≡ none
+  pub first_weaker : (P Q : A → Bool) → ((x : A) → Q x ≡ true → P x ≡ true) → (l : Log A) → first P l ≡ None → first Q l ≡ None
   first_weaker P Q h ε e = refl
   first_weaker P Q h (l ▹ x) e = go (first P l) (P x) (Q x) refl refl refl e (λ d. first_weaker P Q h l d)
     where
-      go : (a : Option A) (s t : Bool) → first P l ≡ a → P x ≡ s → Q x ≡ t → a or_else (if s then some x else none) ≡ none
-          → (first P l ≡ none → first Q l ≡ none) → first Q l or_else (if t then some x else none) ≡ none
-      go (some y) s t d f g e r = cc
-      go none true t d f g e r = cc
-      go none false true d f g e r = let z = h x g in cc
-      go none false false d f g e r = rw (r d)
+      go : (a : Option A) (s t : Bool) → first P l ≡ a → P x ≡ s → Q x ≡ t → a or_else (if s then Some x else None) ≡ None
+          → (first P l ≡ None → first Q l ≡ None) → first Q l or_else (if t then Some x else None) ≡ None
+      go (Some y) s t d f g e r = cc
+      go None true t d f g e r = cc
+      go None false true d f g e r = let z = h x g in cc
+      go None false false d f g e r = rw (r d)
 
   -- what the weaker test finds first is what the stronger one does, if it passes that
-  pub first_stronger : (P Q : A → Bool) → ((x : A) → Q x ≡ true → P x ≡ true) → (l : Log A) (q : A) → first P l ≡ some q → Q q ≡ true → first Q l ≡ some q
+  pub first_stronger : (P Q : A → Bool) → ((x : A) → Q x ≡ true → P x ≡ true) → (l : Log A) (q : A) → first P l ≡ Some q → Q q ≡ true → first Q l ≡ Some q
   first_stronger P Q h ε q e t = e
   first_stronger P Q h (l ▹ x) q e t = go (first P l) (P x) refl refl e (λ d. first_stronger P Q h l q d t)
     where
-      go : (a : Option A) (s : Bool) → first P l ≡ a → P x ≡ s → a or_else (if s then some x else none) ≡ some q
-          → (first P l ≡ some q → first Q l ≡ some q) → first Q l or_else (if Q x then some x else none) ≡ some q
-      go (some y) s d f e r = rw (r (d ∙ e))
-      go none true d f e r = let g : x ≡ q = cc in rw (first_weaker P Q h l d, g, t)
-      go none false d f e r = cc
+      go : (a : Option A) (s : Bool) → first P l ≡ a → P x ≡ s → a or_else (if s then Some x else None) ≡ Some q
+          → (first P l ≡ Some q → first Q l ≡ Some q) → first Q l or_else (if Q x then Some x else None) ≡ Some q
+      go (Some y) s d f e r = rw (r (d ∙ e))
+      go None true d f e r = let g : x ≡ q = cc in rw (first_weaker P Q h l d, g, t)
+      go None false d f e r = cc
 
-  pub or_else_none : (a : Option A) → a or_else none ≡ a
-  or_else_none none = refl
-  or_else_none (some x) = refl
+  pub or_else_none : (a : Option A) → a or_else None ≡ a
+  or_else_none None = refl
+  or_else_none (Some x) = refl
 
   -- ---- what a log has
 
   pub among_put : (x : A) (l : Log A) (m : Option A) → Among x l → Among x (put l m)
-  among_put x l none h = h
-  among_put x l (some y) h = ahead h
+  among_put x l None h = h
+  among_put x l (Some y) h = ahead h
 
   pub among_none : (x : A) (l : Log A) → Among x l → l ≡ ε → ⊥
   among_none x l here e = let z : ◌≡◌ {A = ℕ} 0 1 = cc in omega arith
@@ -89,30 +88,30 @@ module _ {A : Type 0} where
       go x l (ahead {l = k} {y = y} h) a = go x k h (both (all P k) (P y) a).0
 
   -- nothing is found only where nothing passes
-  pub none_first : (P : A → Bool) (l : Log A) → first P l ≡ none → all (λ x. not (P x)) l ≡ true
+  pub none_first : (P : A → Bool) (l : Log A) → first P l ≡ None → all (λ x. not (P x)) l ≡ true
   none_first P ε e = refl
   none_first P (l ▹ x) e = go (first P l) (P x) refl e (none_first P l)
     where
-      go : (a : Option A) (b : Bool) → first P l ≡ a → a or_else (if b then some x else none) ≡ none → (first P l ≡ none → all (λ y. not (P y)) l ≡ true)
+      go : (a : Option A) (b : Bool) → first P l ≡ a → a or_else (if b then Some x else None) ≡ None → (first P l ≡ None → all (λ y. not (P y)) l ≡ true)
           → all (λ y. not (P y)) l && not b ≡ true
-      go (some y) b d e r = cc
-      go none true d e r = cc
-      go none false d e r = rw (r d)
+      go (Some y) b d e r = cc
+      go None true d e r = cc
+      go None false d e r = rw (r d)
 
   -- ---- a test that all of a log pass, of what is found in it
 
   pub all-put : (P : A → Bool) (l : Log A) (m : Option A) → all P l ≡ true → maybe true P m ≡ true → all P (put l m) ≡ true
-  all-put P l none a b = a
-  all-put P l (some x) a b = rw (a, b)
+  all-put P l None a b = a
+  all-put P l (Some x) a b = rw (a, b)
 
   pub first-all : (P Q : A → Bool) (l : Log A) → all Q l ≡ true → maybe true Q (first P l) ≡ true
   first-all P Q ε a = refl
   first-all P Q (l ▹ x) a = let (b, c) = both (all Q l) (Q x) a in go (first P l) (P x) (first-all P Q l b) c
     where
-      go : (h : Option A) (t : Bool) → maybe true Q h ≡ true → Q x ≡ true → maybe true Q (h or_else (if t then some x else none)) ≡ true
-      go none true b c = c
-      go none false b c = refl
-      go (some y) t b c = b
+      go : (h : Option A) (t : Bool) → maybe true Q h ≡ true → Q x ≡ true → maybe true Q (h or_else (if t then Some x else None)) ≡ true
+      go None true b c = c
+      go None false b c = refl
+      go (Some y) t b c = b
 
   pub last-all : (Q : A → Bool) (l : Log A) → all Q l ≡ true → maybe true Q (last l) ≡ true
   last-all Q ε h = refl
@@ -122,7 +121,7 @@ module _ {A : Type 0} where
   last_at_all Q P ε h = refl
   last_at_all Q P (l ▹ x) h = let (a, b) = both (all Q l) (Q x) h in go (P l x) (last_at_all Q P l a) b
     where
-      go : (t : Bool) → maybe true Q (last_at P l) ≡ true → Q x ≡ true → maybe true Q (if t then some x else last_at P l) ≡ true
+      go : (t : Bool) → maybe true Q (last_at P l) ≡ true → Q x ≡ true → maybe true Q (if t then Some x else last_at P l) ≡ true
       go true r b = b
       go false r b = r
 

@@ -1,9 +1,8 @@
 -- A print that is used leaves an acceptable record where it finds one, whatever made that (#111); and as a link it has no other use.
-use Rattle.std.specs.Prelude.{if◌then◌else◌}
+use Rattle.std.specs.Prelude.{if◌then◌else◌, Option, None, Some}
 use Prim.Native.Nat.{ℕ, suc, ◌+◌, ◌*◌, ◌^◌, ◌<◌, ◌≤◌}
 use mathlib.Core.Path.{◌≡◌, refl, sym, ap, ◌∙◌}
 use mathlib.Core.Bool.{Bool, true, false, not, ◌&&◌, ◌||◌, beq}
-use mathlib.Core.Option.{Option, none, some}
 use mathlib.Core.List.{List}
 use native.Mathlib.Omega.{arith}
 use native.Mathlib.Nat.{lt_of_lt_of_le, mul-le-mul_right, div-add-mod', suc-mul}
@@ -39,8 +38,8 @@ choose P true f g = f refl
 choose P false f g = g
 
 -- the slot that a print fills is one of the slots, which the print is canonical for, and was empty
-slot_case : (t : Terms) (E : ℤ) (c : Candidates) (p : Print) (P : Option ℕ → Type 0) → P none
-    → ((i : ℕ) → i < slots t → canonical t E i p ≡ true → bit i c.bits ≡ false → slot_for t E c p ≡ some i → P (some i)) → P (slot_for t E c p)
+slot_case : (t : Terms) (E : ℤ) (c : Candidates) (p : Print) (P : Option ℕ → Type 0) → P None
+    → ((i : ℕ) → i < slots t → canonical t E i p ≡ true → bit i c.bits ≡ false → slot_for t E c p ≡ Some i → P (Some i)) → P (slot_for t E c p)
 unfolding slot_for
 slot_case t E c p P n s = go (slot_for t E c p) refl
   where
@@ -49,8 +48,8 @@ slot_case t E c p P n s = go (slot_for t E c p) refl
     clear false e = refl
 
     go : (x : Option ℕ) → slot_for t E c p ≡ x → P x
-    go none e = n
-    go (some i) e =
+    go None e = n
+    go (Some i) e =
         let (l, h) = find_some (slots t) (λ i. canonical t E i p && not (bit i c.bits)) i e in
         let (a, b) = both (canonical t E i p) (not (bit i c.bits)) h in
         s i l a (clear (bit i c.bits) b) e
@@ -126,7 +125,7 @@ module _ (o : Opening) (h : Holdings) (f : series_fits (live o h) ≡ true) (k :
       && all< slot_places (λ j. beq (bit j (maybe c.bits (λ i. c.bits + 2 ^ i) x)) (ltb 0 (get_or (maybe ps (λ i. set ps i p.price) x) j 0))) ≡ true)
       (prices_good o h f k) filled
     where
-      filled : (i : ℕ) → i < slots t → canonical t E i p ≡ true → bit i c.bits ≡ false → slot_for t E c p ≡ some i
+      filled : (i : ℕ) → i < slots t → canonical t E i p ≡ true → bit i c.bits ≡ false → slot_for t E c p ≡ Some i
           → eqb (c.sum + p.price) (Σ< slot_places (λ j. get_or (set ps i p.price) j 0))
           && all< slot_places (λ j. beq (bit j (c.bits + 2 ^ i)) (ltb 0 (get_or (set ps i p.price) j 0))) ≡ true
       filled i l _ e _ =
@@ -147,7 +146,7 @@ module _ (o : Opening) (h : Holdings) (f : series_fits (live o h) ≡ true) (k :
       slot_case t E c p (λ x. all< slot_places (λ j. not (bit j (maybe c.bits (λ i. c.bits + 2 ^ i) x)) || le_z (pos 2) (boundary t E j)) ≡ true)
       (all<_yes slot_places (slot_after o h) (slot-after o h f k)) filled
     where
-      filled : (i : ℕ) → i < slots t → canonical t E i p ≡ true → bit i c.bits ≡ false → slot_for t E c p ≡ some i
+      filled : (i : ℕ) → i < slots t → canonical t E i p ≡ true → bit i c.bits ≡ false → slot_for t E c p ≡ Some i
           → all< slot_places (λ j. not (bit j (c.bits + 2 ^ i)) || le_z (pos 2) (boundary t E j)) ≡ true
       filled i l g e _ = all<_yes slot_places _ (λ j m. go j m (eqb j i) refl)
         where
@@ -326,9 +325,9 @@ module _ (o : Opening) (h : Holdings) (behind : links_after o h ≡ true) (p : P
   unfolding qualifies
   link_no_fallback = simp (lt_true o.expiry p.published link_after, and_false)
 
-  pub link_no_slot : slot_for o.terms o.expiry h.candidates p ≡ none
+  pub link_no_slot : slot_for o.terms o.expiry h.candidates p ≡ None
   unfolding canonical
-  link_no_slot = slot_case o.terms o.expiry h.candidates p (λ x. x ≡ none) refl (λ i m c _ _. absurd (too_late i m c))
+  link_no_slot = slot_case o.terms o.expiry h.candidates p (λ x. x ≡ None) refl (λ i m c _ _. absurd (too_late i m c))
     where
       too_late : (i : ℕ) → i < slots o.terms → canonical o.terms o.expiry i p ≡ true → ⊥
       too_late i m c =

@@ -1,9 +1,8 @@
 -- An outcome without the chain follows from the slots and the fallback alone: which it is, its price and its samples.
-use Rattle.std.specs.Prelude.{if◌then◌else◌}
+use Rattle.std.specs.Prelude.{if◌then◌else◌, None, Some}
 use Prim.Native.Nat.{ℕ}
 use mathlib.Core.Path.{◌≡◌, refl, sym, ap, ◌∙◌}
 use mathlib.Core.Bool.{Bool, true, false, not, ◌&&◌}
-use mathlib.Core.Option.{none, some}
 use native.Mathlib.Omega.{arith}
 use lib.IntN.{ℤ, ◌+ℤ◌}
 use lib.Signed.{lt_z}
@@ -129,7 +128,7 @@ module _ (o : Opening) (good : good_terms o.terms ≡ true) where
       c = h.candidates
 
       a : Bool → Bool → Answer
-      a x y = if x then Refused 0 else if y then Refused 14 else Used (slot_for o.terms o.expiry c p) (if is_link o.terms o.expiry c p then some (size c.times) else none) (is_fallback o.terms o.expiry c p)
+      a x y = if x then Refused 0 else if y then Refused 14 else Used (slot_for o.terms o.expiry c p) (if is_link o.terms o.expiry c p then Some (size c.times) else None) (is_fallback o.terms o.expiry c p)
 
       go : (x y : Bool) → beside_chain (answer_of (if is_used (a x y) then leaves (a x y) (live o (offer_held o h now (ok p))) else keeps (a x y))) ≡ false
       go true y = refl

@@ -1,9 +1,8 @@
 -- One more event: the ledger's holdings are those that the placing rule, or a withdrawal, leaves.
-use Rattle.std.specs.Prelude.{if◌then◌else◌}
+use Rattle.std.specs.Prelude.{if◌then◌else◌, Option, None, Some}
 use Prim.Native.Nat.{ℕ, ◌+◌, ◌*◌, ◌-◌, ◌^◌, ◌<◌, ◌≤◌}
 use mathlib.Core.Path.{◌≡◌, refl, sym, ap, ◌∙◌, fun_ext}
 use mathlib.Core.Bool.{Bool, true, false, not, ◌&&◌, ◌||◌}
-use mathlib.Core.Option.{Option, none, some}
 use native.Mathlib.Omega.{arith}
 use native.Mathlib.Nat.{mul-le-mul_right, suc-mul, one-mul, zero-mul, lt_of_le_of_lt}
 use lib.ListN.{get_or, set}
@@ -58,32 +57,32 @@ canonical-one t E i k p ne ck = go (canonical t E i p) (ltb i k) refl refl
 -- ---- the slots
 
 unfoldable pub held : Option Posting → ℕ
-held none = 0
-held (some p) = 1
+held None = 0
+held (Some p) = 1
 
 pub held_small : (h : Option Posting) → held h < 2
 unfolding held
-held_small none = omega arith
-held_small (some p) = omega arith
+held_small None = omega arith
+held_small (Some p) = omega arith
 
 pub held_pow : (h : Option Posting) (i : ℕ) → maybe 0 (λ p. 2 ^ i) h ≡ held h * 2 ^ i
 unfolding held
-held_pow none i = sym (zero-mul (2 ^ i))
-held_pow (some p) i = sym (one-mul (2 ^ i))
+held_pow None i = sym (zero-mul (2 ^ i))
+held_pow (Some p) i = sym (one-mul (2 ^ i))
 
 held_is : (h : Option Posting) → eqb (held h) 1 ≡ is_some h
 unfolding held
-held_is none = refl
-held_is (some p) = refl
+held_is None = refl
+held_is (Some p) = refl
 
-unchanged : (h : Option Posting) (b : Bool) (p : Posting) → b && not (is_some h) ≡ false → (h or_else (if b then some p else none)) ≡ h
-unchanged (some x) b p e = refl
-unchanged none true p e = cc
-unchanged none false p e = refl
+unchanged : (h : Option Posting) (b : Bool) (p : Posting) → b && not (is_some h) ≡ false → (h or_else (if b then Some p else None)) ≡ h
+unchanged (Some x) b p e = refl
+unchanged None true p e = cc
+unchanged None false p e = refl
 
-vacant : (h : Option Posting) → not (is_some h) ≡ true → h ≡ none
-vacant none e = refl
-vacant (some x) e = cc
+vacant : (h : Option Posting) → not (is_some h) ≡ true → h ≡ None
+vacant None e = refl
+vacant (Some x) e = cc
 
 module _ (o : Opening) (es : Log Event) where
   abbrev N : ℕ
@@ -117,15 +116,15 @@ module _ (o : Opening) (es : Log Event) where
     abbrev next : ℕ → Option Posting
     next i = holder o (es ▹ posted p) i
 
-    none_filled : find N (open_to p) ≡ none → (i : ℕ) → i < N → next i ≡ holder o es i
+    none_filled : find N (open_to p) ≡ None → (i : ℕ) → i < N → next i ≡ holder o es i
     unfolding holder after_withdrawal open_to
     none_filled e i l = unchanged (holder o es i) (canon i p) p (find_none _ _ e i l)
 
-    module _ (k : ℕ) (e : find N (open_to p) ≡ some k) where
+    module _ (k : ℕ) (e : find N (open_to p) ≡ Some k) where
       filled_slot : k < N
       filled_slot = (find_some N (open_to p) k e).0
 
-      was_vacant : holder o es k ≡ none
+      was_vacant : holder o es k ≡ None
       unfolding open_to
       was_vacant = vacant (holder o es k) (both (canon k p) (not (is_some (holder o es k))) (find_some N (open_to p) k e).1).1
 
@@ -133,7 +132,7 @@ module _ (o : Opening) (es : Log Event) where
       unfolding open_to
       is_canonical = (both (canon k p) (not (is_some (holder o es k))) (find_some N (open_to p) k e).1).0
 
-      now_filled : next k ≡ some p
+      now_filled : next k ≡ Some p
       unfolding holder after_withdrawal
       now_filled = rw (was_vacant, is_canonical)
 
@@ -150,8 +149,8 @@ module _ (o : Opening) (es : Log Event) where
         S = Σ< N (λ i. maybe 0 (v i) (holder o es i))
 
         go : (f : Option ℕ) → find N (open_to p) ≡ f → Σ< N (λ i. maybe 0 (v i) (next i)) ≡ maybe S (λ k. S + v k p) f
-        go none e = Σ<_ext N _ _ (λ i l. ap (maybe 0 (v i)) (none_filled e i l))
-        go (some k) e =
+        go None e = Σ<_ext N _ _ (λ i l. ap (maybe 0 (v i)) (none_filled e i l))
+        go (Some k) e =
             Σ<-one N k (λ i. maybe 0 (v i) (holder o es i)) (λ i. maybe 0 (v i) (next i)) (filled_slot k e) (rw (was_vacant k e))
             (λ i m ne. ap (maybe 0 (v i)) (others_kept k e i ne))
             ∙ ap (λ x. S + maybe 0 (v k) x) (now_filled k e)
@@ -172,8 +171,8 @@ module _ (o : Opening) (es : Log Event) where
 
         go : (f : Option ℕ) → find N (open_to p) ≡ f
             → list_from 0 slot_places (price_at o (es ▹ posted p)) ≡ maybe (list_from 0 slot_places (price_at o es)) (λ k. set (list_from 0 slot_places (price_at o es)) k p.print.price) f
-        go none e = ap (list_from 0 slot_places) (fun_ext (λ i. at i (none_filled e i)))
-        go (some k) e =
+        go None e = ap (list_from 0 slot_places) (fun_ext (λ i. at i (none_filled e i)))
+        go (Some k) e =
             let l = filled_slot k e in
             list_set slot_places k (price_at o es) (price_at o (es ▹ posted p)) p.print.price (omega arith)
             (rw (lt-ltb k N l, now_filled k e)) (λ i ne. at i (λ _. others_kept k e i ne))
@@ -184,31 +183,31 @@ module _ (o : Opening) (es : Log Event) where
     abbrev freed : ℕ → Option Posting
     freed i = holder o (es ▹ withdrawal now k) i
 
-    freed_is : (i : ℕ) → freed i ≡ (if eqb k i then none else holder o es i)
+    freed_is : (i : ℕ) → freed i ≡ (if eqb k i then None else holder o es i)
     unfolding holder after_withdrawal
     freed_is i = go (eqb k i) (holder o es i) refl
       where
         go : (b : Bool) (x : Option Posting) → first_for o i (after_withdrawal o es i) ≡ x
-            → first_for o i (if b && is_some x then ε else after_withdrawal o es i) ≡ (if b then none else x)
-        go true none e = e
-        go true (some q) e = refl
+            → first_for o i (if b && is_some x then ε else after_withdrawal o es i) ≡ (if b then None else x)
+        go true None e = e
+        go true (Some q) e = refl
         go false x e = e
 
     freed_other : (i : ℕ) → (i ≡ k → ⊥) → freed i ≡ holder o es i
     freed_other i ne = freed_is i ∙ rw (ne_eqb k i (λ e. ne (sym e)))
 
-    freed_same : freed k ≡ none
+    freed_same : freed k ≡ None
     freed_same = freed_is k ∙ rw (eq-eqb k k refl)
 
     -- one that finds the slot empty, or none of that number, changes nothing
     freed_nothing : ltb k N && is_some (holder o es k) ≡ false → (i : ℕ) → i < N → freed i ≡ holder o es i
     freed_nothing h i l = freed_is i ∙ go (eqb k i) refl
       where
-        empty : (x : Option Posting) → is_some x ≡ false → none ≡ x
-        empty none e = refl
-        empty (some q) e = cc
+        empty : (x : Option Posting) → is_some x ≡ false → None ≡ x
+        empty None e = refl
+        empty (Some q) e = cc
 
-        go : (b : Bool) → eqb k i ≡ b → (if b then none else holder o es i) ≡ holder o es i
+        go : (b : Bool) → eqb k i ≡ b → (if b then None else holder o es i) ≡ holder o es i
         go true e = let q = eqb-true k i e in empty (holder o es i) (rw (q, lt-ltb i N l) at h)
         go false e = refl
 
@@ -249,9 +248,9 @@ same b s t p ft fp w l f =
     }
 
 moved : (f : Option ℕ) (p : Posting) (l : Option Event)
-    → maybe (pos 0) event_now (if is_some f then some (posted p) else l) ≡ maybe (maybe (pos 0) event_now l) (λ i. p.now) f
-moved none p l = refl
-moved (some k) p l = refl
+    → maybe (pos 0) event_now (if is_some f then Some (posted p) else l) ≡ maybe (maybe (pos 0) event_now l) (λ i. p.now) f
+moved None p l = refl
+moved (Some k) p l = refl
 
 pub candidates_more : (o : Opening) (es : Log Event) (p : Posting) → lt_z (pos 0) p.print.published ≡ true
     → candidates o (es ▹ posted p) ≡ place o.terms o.expiry (candidates o es) p.print p.now
@@ -262,11 +261,11 @@ candidates_more o es p h =
     (rw (slot_for_is o es p) (slots_more o es p (λ i q. q.print.price)))
     (push (map (λ q. q.print.published)) linked (chain o ps ▹ p) (chain o ps))
     (push (map (λ q. q.print.price)) linked (chain o ps ▹ p) (chain o ps))
-    (ap (maybe (pos 0) (λ q. q.print.published)) (fallback_more o es p h) ∙ push (maybe (pos 0) (λ q. q.print.published)) fell_back (some p) (fallback o ps))
-    (ap (maybe 0 (λ q. q.print.price)) (fallback_more o es p h) ∙ push (maybe 0 (λ q. q.print.price)) fell_back (some p) (fallback o ps))
+    (ap (maybe (pos 0) (λ q. q.print.published)) (fallback_more o es p h) ∙ push (maybe (pos 0) (λ q. q.print.published)) fell_back (Some p) (fallback o ps))
+    (ap (maybe 0 (λ q. q.print.price)) (fallback_more o es p h) ∙ push (maybe 0 (λ q. q.print.price)) fell_back (Some p) (fallback o ps))
     (rw (slot_for_is o es p) (moved (find (slots o.terms) (open_to o es p)) p (last_at (moves_window o) es)))
     (push (λ c. maybe (pos 0) (λ q. q.now) (last c)) linked (chain o ps ▹ p) (chain o ps))
-    (ap (maybe (pos 0) (λ q. q.now)) (fallback_more o es p h) ∙ push (maybe (pos 0) (λ q. q.now)) fell_back (some p) (fallback o ps))
+    (ap (maybe (pos 0) (λ q. q.now)) (fallback_more o es p h) ∙ push (maybe (pos 0) (λ q. q.now)) fell_back (Some p) (fallback o ps))
   where
     ps : Log Posting
     ps = prints es
@@ -309,7 +308,7 @@ module _ (o : Opening) (es : Log Event) (now : ℤ) (k : ℕ) where
             (Σ<_ext N' _ _ (λ i l. ap (maybe 0 (λ q. 2 ^ i)) (freed_nothing o es now k h i l)))
             (Σ<_ext N' _ _ (λ i l. ap (maybe 0 (λ q. q.print.price)) (freed_nothing o es now k h i l)))
             refl refl refl refl
-            (ap (λ (b : Bool). maybe (pos 0) event_now (if b then some (withdrawal now k) else last_at (moves_window o) es)) h)
+            (ap (λ (b : Bool). maybe (pos 0) event_now (if b then Some (withdrawal now k) else last_at (moves_window o) es)) h)
             refl refl
             i;
         slot_prices = prices i;
@@ -336,7 +335,7 @@ module _ (o : Opening) (es : Log Event) (now : ℤ) (k : ℕ) where
             (slots_freed o es now k (λ i q. 2 ^ i) l ∙ ap (λ (x : ℕ). Σ< N' (λ i. maybe 0 (λ q. 2 ^ i) (holder o es i)) - x) (filled (holder o es k) f))
             (slots_freed o es now k (λ i q. q.print.price) l ∙ ap (λ (x : ℕ). (candidates o es).sum - x) (sym (price-here g l)))
             refl refl refl refl
-            (ap (λ (b : Bool). maybe (pos 0) event_now (if b then some (withdrawal now k) else last_at (moves_window o) es)) h)
+            (ap (λ (b : Bool). maybe (pos 0) event_now (if b then Some (withdrawal now k) else last_at (moves_window o) es)) h)
             refl refl
             i;
         slot_prices = prices i;
@@ -352,8 +351,8 @@ module _ (o : Opening) (es : Log Event) (now : ℤ) (k : ℕ) where
       f = (both (ltb k N') (is_some (holder o es k)) h).1
 
       filled : (x : Option Posting) → is_some x ≡ true → maybe 0 (λ q. 2 ^ k) x ≡ 2 ^ k
-      filled none e = cc
-      filled (some q) e = refl
+      filled None e = cc
+      filled (Some q) e = refl
 
       price-other : (i : ℕ) → (i ≡ k → ⊥) → price_at o (es ▹ withdrawal now k) i ≡ price_at o es i
       price-other i ne = rw (freed_other o es now k i ne)
@@ -371,10 +370,10 @@ unfolding place
 place_unusable t E c p now h = go (slot_for t E c p) (is_link t E c p) (is_fallback t E c p) refl refl refl h
   where
     go : (s : Option ℕ) (l f : Bool) → slot_for t E c p ≡ s → is_link t E c p ≡ l → is_fallback t E c p ≡ f → is_some s || l || f ≡ false → place t E c p now ≡ c
-    go none false false s l f e = rw (s, l, f)
-    go none false true s l f e = cc
-    go none true f _ _ _ e = cc
-    go (some k) l f _ _ _ e = cc
+    go None false false s l f e = rw (s, l, f)
+    go None false true s l f e = cc
+    go None true f _ _ _ e = cc
+    go (Some k) l f _ _ _ e = cc
 
 -- ---- the sum fits
 
@@ -408,8 +407,8 @@ holder-all o P es i a = first-all (λ p. canonical o.terms o.expiry i p.print) P
         go false r = r
 
 price_small : (h : Option Posting) → maybe true small h ≡ true → maybe 0 (λ q. q.print.price) h ≤ 2 ^ 63
-price_small none e = omega arith
-price_small (some q) e = omega tests
+price_small None e = omega arith
+price_small (Some q) e = omega tests
 
 -- the prices of 32 such prints don't reach 2^128
 pub sum_low : (o : Opening) (es : Log Event) → good_terms o.terms ≡ true → all (of_prints small) es ≡ true → (candidates o es).sum ≤ 32 * 2 ^ 63

@@ -1,9 +1,8 @@
 -- A Settle's price is the mean of the prices that its method takes from the ledger, and samples is how many these are.
-use Rattle.std.specs.Prelude.{if◌then◌else◌}
+use Rattle.std.specs.Prelude.{if◌then◌else◌, Option, None, Some}
 use Prim.Native.Nat.{ℕ, zero, suc, ◌+◌, ◌*◌, ◌/◌, ◌%◌, ◌^◌, ◌<◌, ◌≤◌}
 use mathlib.Core.Path.{◌≡◌, refl, sym, ◌∙◌}
 use mathlib.Core.Bool.{Bool, true, false, not, ◌&&◌}
-use mathlib.Core.Option.{Option, none, some}
 use native.Mathlib.Omega.{arith}
 use lib.IntN.{ℤ}
 use lib.Dec.{ltb, leb}
@@ -45,8 +44,8 @@ total_up_to (suc n) h = go (h n) (total_up_to n h)
   where
     go : (m : Option Posting) → total (map (λ p. p.print.price) (up_to n h)) ≡ Σ< n (λ i. maybe 0 (λ p. p.print.price) (h i))
         → total (map (λ p. p.print.price) (put (up_to n h) m)) ≡ Σ< n (λ i. maybe 0 (λ p. p.print.price) (h i)) + maybe 0 (λ p. p.print.price) m
-    go none r = omega arith
-    go (some p) r = rw r
+    go None r = omega arith
+    go (Some p) r = rw r
 
 size_up_to : (n : ℕ) (h : ℕ → Option Posting) → size (map (λ p. p.print.price) (up_to n h)) ≡ Σ< n (λ i. held (h i))
 unfolding held
@@ -55,8 +54,8 @@ size_up_to (suc n) h = go (h n) (size_up_to n h)
   where
     go : (m : Option Posting) → size (map (λ p. p.print.price) (up_to n h)) ≡ Σ< n (λ i. held (h i))
         → size (map (λ p. p.print.price) (put (up_to n h) m)) ≡ Σ< n (λ i. held (h i)) + held m
-    go none r = omega arith
-    go (some p) r = omega arith
+    go None r = omega arith
+    go (Some p) r = omega arith
 
 module _ (o : Opening) (es : Log Event) (g : good_terms o.terms ≡ true) where
   abbrev slot_prices : Log ℕ
@@ -103,8 +102,8 @@ module _ (o : Opening) (es : Log Event) (g : good_terms o.terms ≡ true) where
     where
       go : (f : Option Posting) → ltb 0 (maybe 0 (λ p. p.print.price) f) ≡ true
           → (maybe 0 (λ p. p.print.price) f ≡ total (map (λ p. p.print.price) (put ε f))) × (1 ≡ size (map (λ p. p.print.price) (put ε f)))
-      go none e = (cc, cc)
-      go (some p) e = (omega arith, refl)
+      go None e = (cc, cc)
+      go (Some p) e = (omega arith, refl)
 
   decide_fair : (t : ℤ) → FairAnswer o es (decided o (candidates o es) t)
   unfolding prices_for
@@ -163,7 +162,7 @@ module _ (o : Opening) (es : Log Event) where
       go false true s = refusal
       go false false s = done
 
-pub answers_fair : (j : Log Command) (c : Command) (o : Opening) → opening j ≡ some o → FairAnswer o (taken_events j) (answer (ledger j) c)
+pub answers_fair : (j : Log Command) (c : Command) (o : Opening) → opening j ≡ Some o → FairAnswer o (taken_events j) (answer (ledger j) c)
 unfolding ledger step
 answers_fair j c o e = rw e (go (freeze j) c)
   where
@@ -174,13 +173,13 @@ answers_fair j c o e = rw e (go (freeze j) c)
     decision t = decide_fair o es (opening_good j o e) t
 
     go : (z : Option Freeze) (c : Command) → FairAnswer o es (answer (since o (holdings o es) z) c)
-    go none (Open q) = refusal
-    go none (Offer q now) = offered_fair o es (holdings o es) now (accept o.terms.exponent o.bps q)
-    go none (Ask now) = decision now
-    go none (Fix now) = fixing_fair o es (holdings o es) now (decided o (candidates o es) now) (decision now)
-    go none (Withdraw now i) = withdrawing_fair o es (holdings o es) now i
-    go (some z) (Open q) = refusal
-    go (some z) (Offer q now) = refusal
-    go (some z) (Ask now) = decision z.now
-    go (some z) (Fix now) = refusal
-    go (some z) (Withdraw now i) = refusal
+    go None (Open q) = refusal
+    go None (Offer q now) = offered_fair o es (holdings o es) now (accept o.terms.exponent o.bps q)
+    go None (Ask now) = decision now
+    go None (Fix now) = fixing_fair o es (holdings o es) now (decided o (candidates o es) now) (decision now)
+    go None (Withdraw now i) = withdrawing_fair o es (holdings o es) now i
+    go (Some z) (Open q) = refusal
+    go (Some z) (Offer q now) = refusal
+    go (Some z) (Ask now) = decision z.now
+    go (Some z) (Fix now) = refusal
+    go (Some z) (Withdraw now i) = refusal

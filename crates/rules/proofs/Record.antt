@@ -1,9 +1,8 @@
 -- What is written into a record is read back from it, and the ledger's record is acceptable.
-use Rattle.std.specs.Prelude.{if◌then◌else◌}
+use Rattle.std.specs.Prelude.{if◌then◌else◌, Option, None, Some}
 use Prim.Native.Nat.{ℕ, zero, suc, ◌+◌, ◌*◌, ◌/◌, ◌%◌, ◌^◌, ◌<◌, ◌≤◌}
 use mathlib.Core.Path.{◌≡◌, refl, ap, ◌∙◌}
 use mathlib.Core.Bool.{Bool, true, false, ◌&&◌}
-use mathlib.Core.Option.{Option, none, some}
 use mathlib.Core.List.{List, [], ◌∷◌, ◌++◌}
 use lib.ListN.{length, get_or, take}
 use lib.Seq.{take_at, drop-append-add}
@@ -423,9 +422,9 @@ unfolding ledger
 ledger_honest j = go (opening j) (freeze j)
   where
     go : (o : Option Opening) (z : Option Freeze) → honest (maybe empty (λ q. since q (holdings q (taken_events j)) z) o)
-    go none z = tt
-    go (some o) none = tt
-    go (some o) (some z) = refl
+    go None z = tt
+    go (Some o) None = tt
+    go (Some o) (Some z) = refl
 
 pub ledger-stored : (j : Log Command) → all command_fits j ≡ true → stored (bytes_of (ledger j)) ≡ ok (ledger j)
 ledger-stored j h = written-stored (ledger j) (ledger-fits j h) (ledger_sound j h) (ledger_honest j)

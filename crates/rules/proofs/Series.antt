@@ -1,9 +1,8 @@
 -- One series: each command leaves what the ledger reads off the commands so far.
-use Rattle.std.specs.Prelude.{if◌then◌else◌}
+use Rattle.std.specs.Prelude.{if◌then◌else◌, Option, None, Some}
 use Prim.Native.Nat.{ℕ, ◌*◌, ◌^◌}
 use mathlib.Core.Path.{◌≡◌, refl, sym, ap, ◌∙◌}
 use mathlib.Core.Bool.{Bool, true, false, not, ◌&&◌, ◌||◌}
-use mathlib.Core.Option.{Option, none, some}
 use lib.ListN.{set}
 use lib.IntN.{ℤ, pos, negsuc, nat_abs}
 use lib.Signed.{lt_z, le_z}
@@ -71,55 +70,55 @@ good_positive p g = go (eqb p.price 0) (le_z p.prev (pos 0)) (lt_z p.published p
 
 -- ---- before the opening
 
-pub none_ahead : {A : Type 0} (a b : Option A) → a or_else b ≡ none → a ≡ none
-none_ahead none b e = refl
-none_ahead (some x) b e = e
+pub none_ahead : {A : Type 0} (a b : Option A) → a or_else b ≡ None → a ≡ None
+none_ahead None b e = refl
+none_ahead (Some x) b e = e
 
-pub ledger-empty : (j : Log Command) → opening j ≡ none → ledger j ≡ empty
+pub ledger-empty : (j : Log Command) → opening j ≡ None → ledger j ≡ empty
 unfolding ledger
 ledger-empty j e = rw e
 
-pub no_events : (j : Log Command) → opening j ≡ none → events j ≡ ε
+pub no_events : (j : Log Command) → opening j ≡ None → events j ≡ ε
 unfolding opening events
 no_events ε e = refl
 no_events (j ▹ c) e =
-    let h : opening j ≡ none = none_ahead (opening j) (good_open c) e in
+    let h : opening j ≡ None = none_ahead (opening j) (good_open c) e in
     rw (no_events j h, h)
 
-pub no_freeze : (j : Log Command) → opening j ≡ none → freeze j ≡ none
+pub no_freeze : (j : Log Command) → opening j ≡ None → freeze j ≡ None
 unfolding opening freeze
 no_freeze ε e = refl
 no_freeze (j ▹ c) e =
-    let h : opening j ≡ none = none_ahead (opening j) (good_open c) e in
+    let h : opening j ≡ None = none_ahead (opening j) (good_open c) e in
     rw (no_freeze j h) (go c h)
   where
-    go : (c : Command) → opening j ≡ none → freezes j c ≡ none
+    go : (c : Command) → opening j ≡ None → freezes j c ≡ None
     go (Open o) h = refl
     go (Offer q now) h = refl
     go (Ask now) h = refl
     go (Fix now) h = rw h
     go (Withdraw now i) h = refl
 
-pub opening_good : (j : Log Command) (o : Opening) → opening j ≡ some o → good_terms o.terms ≡ true
+pub opening_good : (j : Log Command) (o : Opening) → opening j ≡ Some o → good_terms o.terms ≡ true
 unfolding opening
 opening_good ε o e = cc
 opening_good (j ▹ c) o e = go (opening j) c refl e (opening_good j o)
   where
-    go : (a : Option Opening) (c : Command) → opening j ≡ a → a or_else good_open c ≡ some o → (opening j ≡ some o → good_terms o.terms ≡ true) → good_terms o.terms ≡ true
-    go (some x) c d e r = r (d ∙ e)
-    go none (Open x) d e r = at (good_terms x.terms) refl e
+    go : (a : Option Opening) (c : Command) → opening j ≡ a → a or_else good_open c ≡ Some o → (opening j ≡ Some o → good_terms o.terms ≡ true) → good_terms o.terms ≡ true
+    go (Some x) c d e r = r (d ∙ e)
+    go None (Open x) d e r = at (good_terms x.terms) refl e
       where
-        at : (b : Bool) → good_terms x.terms ≡ b → (if b then some x else none) ≡ some o → good_terms o.terms ≡ true
+        at : (b : Bool) → good_terms x.terms ≡ b → (if b then Some x else None) ≡ Some o → good_terms o.terms ≡ true
         at true g e = let y : x ≡ o = cc in ap (λ (z : Opening). good_terms z.terms) (sym y) ∙ g
         at false g e = cc
-    go none (Offer q now) d e r = cc
-    go none (Ask now) d e r = cc
-    go none (Fix now) d e r = cc
-    go none (Withdraw now i) d e r = cc
+    go None (Offer q now) d e r = cc
+    go None (Ask now) d e r = cc
+    go None (Fix now) d e r = cc
+    go None (Withdraw now i) d e r = cc
 
 -- ---- while it is open
 
-pub ledger-live : (j : Log Command) (o : Opening) → opening j ≡ some o → freeze j ≡ none → ledger j ≡ live o (holdings o (events j))
+pub ledger-live : (j : Log Command) (o : Opening) → opening j ≡ Some o → freeze j ≡ None → ledger j ≡ live o (holdings o (events j))
 unfolding ledger taken_events
 ledger-live j o e f = rw (e, f)
 
@@ -136,32 +135,32 @@ taken-all P good h w (j ▹ c) a =
     all-put P (events j) (taken (opening j) c) (taken-all P good h w j aj) (go (opening j) c ac)
   where
     go : (x : Option Opening) (c : Command) → good c ≡ true → maybe true P (taken x c) ≡ true
-    go none c a = refl
-    go (some o) (Open q) a = refl
-    go (some o) (Ask now) a = refl
-    go (some o) (Fix now) a = refl
-    go (some o) (Withdraw now i) a = w now i a
-    go (some o) (Offer q now) a = at (times_fit o.terms o.expiry) (accept o.terms.exponent o.bps q) refl
+    go None c a = refl
+    go (Some o) (Open q) a = refl
+    go (Some o) (Ask now) a = refl
+    go (Some o) (Fix now) a = refl
+    go (Some o) (Withdraw now i) a = w now i a
+    go (Some o) (Offer q now) a = at (times_fit o.terms o.expiry) (accept o.terms.exponent o.bps q) refl
       where
-        at : (b : Bool) (r : Result Print) → accept o.terms.exponent o.bps q ≡ r → maybe true P (if b then accepted now r else none) ≡ true
+        at : (b : Bool) (r : Result Print) → accept o.terms.exponent o.bps q ≡ r → maybe true P (if b then accepted now r else None) ≡ true
         at true (refused r) e = refl
         at true (ok p) e = h o q now p a e
         at false r e = refl
 
 -- no print is taken where one of the two times that it is measured by does not fit
-pub no_prints : (j : Log Command) (o : Opening) → opening j ≡ some o → times_fit o.terms o.expiry ≡ false → all (of_prints (λ p. false)) (events j) ≡ true
+pub no_prints : (j : Log Command) (o : Opening) → opening j ≡ Some o → times_fit o.terms o.expiry ≡ false → all (of_prints (λ p. false)) (events j) ≡ true
 unfolding opening events
 no_prints ε o e f = refl
 no_prints (j ▹ c) o e f = go (opening j) refl e (no_prints j o)
   where
-    go : (x : Option Opening) → opening j ≡ x → x or_else good_open c ≡ some o → (opening j ≡ some o → times_fit o.terms o.expiry ≡ false → all (of_prints (λ p. false)) (events j) ≡ true)
+    go : (x : Option Opening) → opening j ≡ x → x or_else good_open c ≡ Some o → (opening j ≡ Some o → times_fit o.terms o.expiry ≡ false → all (of_prints (λ p. false)) (events j) ≡ true)
         → all (of_prints (λ p. false)) (put (events j) (taken x c)) ≡ true
-    go none d e r = rw (no_events j d)
-    go (some x) d e r =
+    go None d e r = rw (no_events j d)
+    go (Some x) d e r =
         let y : x ≡ o = cc in
-        all-put (of_prints (λ p. false)) (events j) (taken (some x) c) (r (d ∙ e) f) (none_of c y)
+        all-put (of_prints (λ p. false)) (events j) (taken (Some x) c) (r (d ∙ e) f) (none_of c y)
       where
-        none_of : (c : Command) → x ≡ o → maybe true (of_prints (λ p. false)) (taken (some x) c) ≡ true
+        none_of : (c : Command) → x ≡ o → maybe true (of_prints (λ p. false)) (taken (Some x) c) ≡ true
         none_of (Open q) y = refl
         none_of (Offer q now) y = rw (y, f)
         none_of (Ask now) y = refl
@@ -198,7 +197,7 @@ module _ (o : Opening) (h : Holdings) (p : Print) (now : ℤ) where
   offered-changed f = rw f (go (usable t E c p) refl)
     where
       a : Bool → Answer
-      a u = if not u then Refused 14 else Used (slot_for t E c p) (if is_link t E c p then some (size c.times) else none) (is_fallback t E c p)
+      a u = if not u then Refused 14 else Used (slot_for t E c p) (if is_link t E c p then Some (size c.times) else None) (is_fallback t E c p)
 
       go : (u : Bool) → usable t E c p ≡ u
           → maybe (live o h) (λ s. s) (changed (if is_used (a u) then leaves (a u) (live o (offer_held o h now (ok p))) else keeps (a u))) ≡ live o (offer_held o h now (ok p))
@@ -206,8 +205,8 @@ module _ (o : Opening) (h : Holdings) (p : Print) (now : ℤ) where
       go false e = ap (live o) (sym kept)
         where
           unfilled : (f : Option ℕ) (a b : Bool) → is_some f || a || b ≡ false → maybe h.slot_prices (λ i. set h.slot_prices i p.price) f ≡ h.slot_prices
-          unfilled none a b e = refl
-          unfilled (some i) a b e = cc
+          unfilled None a b e = refl
+          unfilled (Some i) a b e = cc
 
           kept : offer_held o h now (ok p) ≡ h
           kept = λ i. record { candidates = place_unusable t E c p now e i; slot_prices = unfilled (slot_for t E c p) (is_link t E c p) (is_fallback t E c p) e i }
@@ -217,12 +216,12 @@ module _ (o : Opening) (h : Holdings) (p : Print) (now : ℤ) where
   offered_late f = rw f
 
 module _ (j : Log Command) (range : all in_range j ≡ true) where
-  after-empty : (c : Command) → opening j ≡ none → after empty c ≡ ledger (j ▹ c)
+  after-empty : (c : Command) → opening j ≡ None → after empty c ≡ ledger (j ▹ c)
   unfolding step ledger taken_events opening freeze events
   after-empty (Open o) e = rw (e, no_freeze j e, no_events j e) (go (good_terms o.terms))
     where
       go : (b : Bool) → maybe empty (λ s. s) (changed (if b then leaves Answer.Opened (live o no_holdings) else keeps (Refused 12)))
-          ≡ maybe empty (λ q. live q (holdings q ε)) (if b then some o else none)
+          ≡ maybe empty (λ q. live q (holdings q ε)) (if b then Some o else None)
       go true = ap (live o) (sym (holdings_none o))
       go false = refl
   after-empty (Offer q now) e = rw e
@@ -230,17 +229,17 @@ module _ (j : Log Command) (range : all in_range j ≡ true) where
   after-empty (Fix now) e = rw e
   after-empty (Withdraw now i) e = rw e
 
-  module _ (o : Opening) (e : opening j ≡ some o) where
+  module _ (o : Opening) (e : opening j ≡ Some o) where
     abbrev h : Holdings
     h = holdings o (events j)
 
     after_offer : (q : Quote) (now : ℤ) → fits q.price ≡ true
         → maybe (live o h) (λ s. s) (changed (offered o h now (accept o.terms.exponent o.bps q)))
-        ≡ live o (holdings o (put (events j) (if times_fit o.terms o.expiry then accepted now (accept o.terms.exponent o.bps q) else none)))
+        ≡ live o (holdings o (put (events j) (if times_fit o.terms o.expiry then accepted now (accept o.terms.exponent o.bps q) else None)))
     after_offer q now r = go (accept o.terms.exponent o.bps q) (times_fit o.terms o.expiry) refl refl
       where
         go : (a : Result Print) (b : Bool) → accept o.terms.exponent o.bps q ≡ a → times_fit o.terms o.expiry ≡ b
-            → maybe (live o h) (λ s. s) (changed (offered o h now a)) ≡ live o (holdings o (put (events j) (if b then accepted now a else none)))
+            → maybe (live o h) (λ s. s) (changed (offered o h now a)) ≡ live o (holdings o (put (events j) (if b then accepted now a else None)))
         go (refused r) true _ _ = refl
         go (refused r) false _ _ = refl
         go (ok p) true i f =
@@ -266,7 +265,7 @@ module _ (j : Log Command) (range : all in_range j ≡ true) where
             rw (lt-leb (slots o.terms) i (ltb-true i (slots o.terms) x), candidates-bit o es i (ltb-true i (slots o.terms) x), y)
             (ap (live o) (sym (holdings_freed o es now i (opening_good j o e) (rw (x, y)))))
 
-    after-live : (c : Command) → freeze j ≡ none → in_range c ≡ true → after (live o h) c ≡ ledger (j ▹ c)
+    after-live : (c : Command) → freeze j ≡ None → in_range c ≡ true → after (live o h) c ≡ ledger (j ▹ c)
     unfolding step ledger taken_events opening freeze events
     after-live (Open q) f _ = rw (e, f)
     after-live (Offer q now) f r = rw (e, f) (after_offer q now r)
@@ -274,14 +273,14 @@ module _ (j : Log Command) (range : all in_range j ≡ true) where
     after-live (Fix now) f _ = rw (e, f) (go (final (decided o h.candidates now)))
       where
         go : (b : Bool) → maybe (live o h) (λ s. s) (changed (if b then leaves (decided o h.candidates now) (fixed Order.voted o h (decided o h.candidates now) now) else keeps (waiting (decided o h.candidates now))))
-            ≡ (let z : Option Freeze = if b then some (record { ahead = j; now = now }) else none in
+            ≡ (let z : Option Freeze = if b then Some (record { ahead = j; now = now }) else None in
             since o (holdings o (maybe (events j) (λ z. events z.ahead) z)) z)
         go true = refl
         go false = refl
     after-live (Withdraw now i) f _ = rw (e, f) (after_withdraw now i)
 
-    after-fixed : (z : Freeze) (c : Command) → freeze j ≡ some z
-        → after (since o (holdings o (events z.ahead)) (some z)) c ≡ ledger (j ▹ c)
+    after-fixed : (z : Freeze) (c : Command) → freeze j ≡ Some z
+        → after (since o (holdings o (events z.ahead)) (Some z)) c ≡ ledger (j ▹ c)
     unfolding step ledger taken_events opening freeze
     after-fixed z (Open q) f = rw (e, f)
     after-fixed z (Offer q now) f = rw (e, f)
@@ -295,6 +294,6 @@ module _ (j : Log Command) (range : all in_range j ≡ true) where
     where
       go : (o : Option Opening) (z : Option Freeze) → opening j ≡ o → freeze j ≡ z
           → after (maybe empty (λ q. since q (holdings q (maybe (events j) (λ y. events y.ahead) z)) z) o) c ≡ ledger (j ▹ c)
-      go none z e f = after-empty c e
-      go (some o) none e f = after-live o e c f r
-      go (some o) (some z) e f = after-fixed o e z c f
+      go None z e f = after-empty c e
+      go (Some o) None e f = after-live o e c f r
+      go (Some o) (Some z) e f = after-fixed o e z c f

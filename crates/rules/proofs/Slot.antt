@@ -1,9 +1,8 @@
 -- The slot that a print fills, as code finds it: by the one slot in whose time it was published.
-use Rattle.std.specs.Prelude.{if◌then◌else◌}
+use Rattle.std.specs.Prelude.{if◌then◌else◌, Option, None, Some}
 use Prim.Native.Nat.{ℕ, ◌+◌, ◌*◌, ◌<◌, ◌≤◌}
 use mathlib.Core.Path.{◌≡◌, refl, sym, ap}
 use mathlib.Core.Bool.{Bool, true, false, not, ◌&&◌}
-use mathlib.Core.Option.{Option, none, some}
 use native.Mathlib.Omega.{arith}
 use native.Mathlib.Nat.{mul-le-mul_right, suc-mul, div-mul-le_self}
 use lib.IntN.{ℤ, pos, ◌+ℤ◌, ◌-ℤ◌}
@@ -20,25 +19,25 @@ use Rattle.rules.proofs.Integers.{sum_law, difference_law, lt_yes, le_yes, no_lt
 use Rattle.rules.proofs.Sums.{find_none, find_some}
 use Rattle.rules.proofs.Place.{apart}
 
-find_only : (n : ℕ) (P : ℕ → Bool) (k : ℕ) → k < n → ((i : ℕ) → (i ≡ k → ⊥) → P i ≡ false) → find n P ≡ (if P k then some k else none)
+find_only : (n : ℕ) (P : ℕ → Bool) (k : ℕ) → k < n → ((i : ℕ) → (i ≡ k → ⊥) → P i ≡ false) → find n P ≡ (if P k then Some k else None)
 find_only n P k l h = go (find n P) (P k) refl refl
   where
-    go : (f : Option ℕ) (b : Bool) → find n P ≡ f → P k ≡ b → f ≡ (if b then some k else none)
-    go none false e p = refl
-    go none true e p = let q = find_none n P e k l in cc
-    go (some j) b e p = let (m, q) = find_some n P j e in at (eqb j k) refl b p q
+    go : (f : Option ℕ) (b : Bool) → find n P ≡ f → P k ≡ b → f ≡ (if b then Some k else None)
+    go None false e p = refl
+    go None true e p = let q = find_none n P e k l in cc
+    go (Some j) b e p = let (m, q) = find_some n P j e in at (eqb j k) refl b p q
       where
-        at : (t : Bool) → eqb j k ≡ t → (b : Bool) → P k ≡ b → P j ≡ true → some j ≡ (if b then some k else none)
-        at true e true p q = ap some (eqb-true j k e)
+        at : (t : Bool) → eqb j k ≡ t → (b : Bool) → P k ≡ b → P j ≡ true → Some j ≡ (if b then Some k else None)
+        at true e true p q = ap Some (eqb-true j k e)
         at true e false p q = let r = ap P (eqb-true j k e) in cc
         at false e b p q = let r = h j (eqb-false j k e) in cc
 
-find_nothing : (n : ℕ) (P : ℕ → Bool) → ((i : ℕ) → i < n → P i ≡ false) → find n P ≡ none
+find_nothing : (n : ℕ) (P : ℕ → Bool) → ((i : ℕ) → i < n → P i ≡ false) → find n P ≡ None
 find_nothing n P h = go (find n P) refl
   where
-    go : (f : Option ℕ) → find n P ≡ f → f ≡ none
-    go none e = refl
-    go (some j) e = let (m, q) = find_some n P j e in let r = h j m in cc
+    go : (f : Option ℕ) → find n P ≡ f → f ≡ None
+    go None e = refl
+    go (Some j) e = let (m, q) = find_some n P j e in let r = h j m in cc
 
 -- before E − window, and from E on, it is in no slot's time
 before : (E at : ℤ) (w m : ℕ) → lt_z at (E -ℤ pos w) ≡ true → le_z (E -ℤ pos w +ℤ pos m) at ≡ false
@@ -51,13 +50,13 @@ past E at w m s l h =
     (omega (arith, le_yes E at h, difference_law E (pos w), sum_law (E -ℤ pos w) (pos m), sum_law (E -ℤ pos w +ℤ pos m) (pos s)))
 
 module _ (t : Terms) (E : ℤ) (c : Candidates) (p : Print) where
-  pub slot_before : lt_z p.published (E -ℤ pos t.window) ≡ true → slot_for t E c p ≡ none
+  pub slot_before : lt_z p.published (E -ℤ pos t.window) ≡ true → slot_for t E c p ≡ None
   unfolding slot_for canonical
   slot_before h =
       find_nothing (slots t) (λ i. canonical t E i p && not (bit i c.bits))
       (λ i l. rw (before E p.published t.window (i * t.slot) h))
 
-  pub slot_past : le_z E p.published ≡ true → slot_for t E c p ≡ none
+  pub slot_past : le_z E p.published ≡ true → slot_for t E c p ≡ None
   unfolding slot_for canonical
   slot_past h =
       find_nothing (slots t) (λ i. canonical t E i p && not (bit i c.bits))
@@ -68,7 +67,7 @@ module _ (t : Terms) (E : ℤ) (c : Candidates) (p : Print) where
   -- published in the time of slot k, it is canonical for no other
   pub slot_at_lem : (k : ℕ) → k < slots t
       → le_z (boundary t E k) p.published ≡ true → lt_z p.published (boundary t E k +ℤ pos t.slot) ≡ true
-      → slot_for t E c p ≡ (if canonical t E k p && not (bit k c.bits) then some k else none)
+      → slot_for t E c p ≡ (if canonical t E k p && not (bit k c.bits) then Some k else None)
   unfolding slot_for canonical
   slot_at_lem k l b a = find_only (slots t) (λ i. canonical t E i p && not (bit i c.bits)) k l (λ i ne. rw (other i ne))
     where

@@ -1,9 +1,8 @@
 -- Sums over i < n, the first i < n, and the binary digits of a sum.
-use Rattle.std.specs.Prelude.{if◌then◌else◌}
+use Rattle.std.specs.Prelude.{if◌then◌else◌, Option, None, Some}
 use Prim.Native.Nat.{ℕ, zero, suc, ◌+◌, ◌*◌, ◌-◌, ◌/◌, ◌%◌, ◌^◌, ◌<◌, ◌≤◌}
 use mathlib.Core.Path.{◌≡◌, refl, sym, ap, ap₂, ◌∙◌}
 use mathlib.Core.Bool.{Bool, true, false}
-use mathlib.Core.Option.{Option, none, some}
 use native.Mathlib.Omega.{arith}
 use native.Mathlib.Nat.{pow-suc, mul_assoc, one-mul, suc-mul, mul-le-mul_right, add-mul-div_right, add-mul-mod_self_right, div-eq_of_lt, lt_of_lt_of_le}
 use lib.Pow.{pow_pos, pow-add, pow_mono}
@@ -88,26 +87,26 @@ pub find_ext : (n : ℕ) (P Q : ℕ → Bool) → ((i : ℕ) → i < n → P i �
 find_ext zero P Q h = refl
 find_ext (suc n) P Q h = rw (find_ext n P Q (λ i l. h i (omega arith)), h n (omega arith))
 
-pub find_none : (n : ℕ) (P : ℕ → Bool) → find n P ≡ none → (i : ℕ) → i < n → P i ≡ false
+pub find_none : (n : ℕ) (P : ℕ → Bool) → find n P ≡ None → (i : ℕ) → i < n → P i ≡ false
 find_none zero P e i l = let c : ⊥ = omega arith in absurd c
 find_none (suc n) P e i l = go (find n P) (P n) (eqb i n) refl refl refl e (λ q l'. find_none n P q i l')
   where
-    go : (a : Option ℕ) (b t : Bool) → find n P ≡ a → P n ≡ b → eqb i n ≡ t → a or_else (if b then some n else none) ≡ none
-        → (find n P ≡ none → i < n → P i ≡ false) → P i ≡ false
-    go (some x) b t p q u e r = cc
-    go none true t p q u e r = cc
-    go none false true p q u e r = ap P (eqb-true i n u) ∙ q
-    go none false false p q u e r = r p (lt_of_le-ne (omega arith) (eqb-false i n u))
+    go : (a : Option ℕ) (b t : Bool) → find n P ≡ a → P n ≡ b → eqb i n ≡ t → a or_else (if b then Some n else None) ≡ None
+        → (find n P ≡ None → i < n → P i ≡ false) → P i ≡ false
+    go (Some x) b t p q u e r = cc
+    go None true t p q u e r = cc
+    go None false true p q u e r = ap P (eqb-true i n u) ∙ q
+    go None false false p q u e r = r p (lt_of_le-ne (omega arith) (eqb-false i n u))
 
-pub find_some : (n : ℕ) (P : ℕ → Bool) (k : ℕ) → find n P ≡ some k → (k < n) × (P k ≡ true)
+pub find_some : (n : ℕ) (P : ℕ → Bool) (k : ℕ) → find n P ≡ Some k → (k < n) × (P k ≡ true)
 find_some zero P k e = let c : ◌≡◌ {A = ℕ} 0 1 = cc in let c : ⊥ = omega arith in absurd c
 find_some (suc n) P k e = go (find n P) (P n) refl refl e (λ q. find_some n P k q)
   where
-    go : (a : Option ℕ) (b : Bool) → find n P ≡ a → P n ≡ b → a or_else (if b then some n else none) ≡ some k
-        → (find n P ≡ some k → (k < n) × (P k ≡ true)) → (k < suc n) × (P k ≡ true)
-    go (some x) b p q e r = let (l, h) = r (p ∙ e) in (omega arith, h)
-    go none true p q e r = let f : n ≡ k = cc in (omega arith, ap P (sym f) ∙ q)
-    go none false p q e r = let c : ◌≡◌ {A = ℕ} 0 1 = cc in let c : ⊥ = omega arith in absurd c
+    go : (a : Option ℕ) (b : Bool) → find n P ≡ a → P n ≡ b → a or_else (if b then Some n else None) ≡ Some k
+        → (find n P ≡ Some k → (k < n) × (P k ≡ true)) → (k < suc n) × (P k ≡ true)
+    go (Some x) b p q e r = let (l, h) = r (p ∙ e) in (omega arith, h)
+    go None true p q e r = let f : n ≡ k = cc in (omega arith, ap P (sym f) ∙ q)
+    go None false p q e r = let c : ◌≡◌ {A = ℕ} 0 1 = cc in let c : ⊥ = omega arith in absurd c
 
 -- ---- digits
 

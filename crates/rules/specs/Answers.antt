@@ -1,6 +1,5 @@
 -- 01, "What a command answers".
-use Rattle.std.specs.Prelude.{ℕ, Bool, true, false, ℤ, eqb, if◌then◌else◌}
-use Rattle.std.proofs.Math.Option.{Option}
+use Rattle.std.specs.Prelude.{ℕ, Bool, true, false, ℤ, eqb, if◌then◌else◌, Option}
 
 -- a value, or a refusal with its number
 pub data Result (A : Type 0) : Type 0 where

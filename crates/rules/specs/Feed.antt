@@ -1,6 +1,5 @@
 -- #104: the same prints in two orders. j and k are the commands that two series were given, each since its place was empty.
-use Rattle.std.specs.Prelude.{ℕ, ◌≡◌, Bool, true, false, not, ◌&&◌, ◌||◌, List, [], ◌∷◌, take, drop, pos, if◌then◌else◌}
-use Rattle.std.proofs.Math.Option.{Option, none, some}
+use Rattle.std.specs.Prelude.{ℕ, ◌≡◌, Bool, true, false, not, ◌&&◌, ◌||◌, List, [], ◌∷◌, take, drop, pos, if◌then◌else◌, Option, None, Some}
 use Rattle.std.specs.Int.Signed.{le_z}
 use Rattle.rules.specs.Log.{Log, ε, ◌▹◌, Among, is_some, collect}
 use Rattle.rules.specs.Bytes.{Bytes}
@@ -29,19 +28,19 @@ is_feed (l ▹ p ▹ q) = is_feed (l ▹ p) && (continues p q && forward q)
 
 -- what a command offers; the now of an offer is no part of it
 abbrev pub quoted : Command → Option Quote
-quoted (Open o) = none
-quoted (Offer q now) = some q
-quoted (Ask now) = none
-quoted (Fix now) = none
-quoted (Withdraw now i) = none
+quoted (Open o) = None
+quoted (Offer q now) = Some q
+quoted (Ask now) = None
+quoted (Fix now) = None
+quoted (Withdraw now i) = None
 
 -- all that was offered since the opening, refused offers included
 unfoldable pub offers : Log Command → Log Quote
-offers j = collect (λ ahead c. if is_some (opening ahead) then quoted c else none) j
+offers j = collect (λ ahead c. if is_some (opening ahead) then quoted c else None) j
 
 -- of that, what was used
 unfoldable pub used : Log Command → Log Quote
-used j = collect (λ ahead c. if is_used (answer (ledger ahead) c) then quoted c else none) j
+used j = collect (λ ahead c. if is_used (answer (ledger ahead) c) then quoted c else None) j
 
 -- a fix or a withdraw
 abbrev pub is_fix_or_withdraw : Command → Bool
@@ -58,7 +57,7 @@ not_fixed_or_freed (j ▹ c) = not_fixed_or_freed j && (not (is_fix_or_withdraw 
 
 -- the series was opened as o, what it used is of this feed, and no fix or withdraw was accepted
 pub record Posted (feed : Log Quote) (o : Opening) (j : Log Command) : Type 0 where
-  pub opened : opening j ≡ some o
+  pub opened : opening j ≡ Some o
   pub of_feed : (q : Quote) → Among q (used j) → Among q feed
   pub untouched : not_fixed_or_freed j ≡ true
 

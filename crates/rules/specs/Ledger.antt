@@ -1,6 +1,5 @@
 -- 01, "Commands": "The ledger, read from the list alone, per series".
-use Rattle.std.specs.Prelude.{ℕ, zero, suc, ◌^◌, ◌<◌, ◌≡◌, Bool, not, ◌&&◌, ◌||◌, List, [], ◌++◌, ℤ, pos, ltb, eqb, if◌then◌else◌}
-use Rattle.std.proofs.Math.Option.{Option, none, some}
+use Rattle.std.specs.Prelude.{ℕ, zero, suc, ◌^◌, ◌<◌, ◌≡◌, Bool, not, ◌&&◌, ◌||◌, List, [], ◌++◌, ℤ, pos, ltb, eqb, if◌then◌else◌, Option, None, Some}
 use Rattle.std.specs.Int.Signed.{le_z}
 use Rattle.rules.specs.Log.{Log, ε, ◌▹◌, is_some, maybe, size, put, all, first, last, last_at, map, first_at, collect, total, Σ<, find, up_to, list_from}
 use Rattle.rules.specs.Bytes.{Bytes}
@@ -18,11 +17,11 @@ use Rattle.rules.specs.Entries.{Entry, no_command, command, entry}
 
 -- "the opening is the first open with good terms"
 abbrev pub good_open : Command → Option Opening
-good_open (Open o) = if good_terms o.terms then some o else none
-good_open (Offer q now) = none
-good_open (Ask now) = none
-good_open (Fix now) = none
-good_open (Withdraw now i) = none
+good_open (Open o) = if good_terms o.terms then Some o else None
+good_open (Offer q now) = None
+good_open (Ask now) = None
+good_open (Fix now) = None
+good_open (Withdraw now i) = None
 
 unfoldable pub opening : Log Command → Option Opening
 opening j = first_at (λ ahead c. good_open c) j
@@ -38,8 +37,8 @@ pub data Event : Type 0 where
   withdrawal : ℤ → ℕ → Event
 
 abbrev pub posting : Event → Option Posting
-posting (posted p) = some p
-posting (withdrawal now i) = none
+posting (posted p) = Some p
+posting (withdrawal now i) = None
 
 abbrev pub event_now : Event → ℤ
 event_now (posted p) = p.now
@@ -47,18 +46,18 @@ event_now (withdrawal now i) = now
 
 -- "Taken prints are later offers passing acceptance, before the freeze; none if E − window or E − lookback doesn't fit."
 abbrev pub accepted : ℤ → Result Print → Option Event
-accepted now (ok p) = some (posted (record { print = p; now = now }))
-accepted now (refused r) = none
+accepted now (ok p) = Some (posted (record { print = p; now = now }))
+accepted now (refused r) = None
 
 -- what a command adds to the events
 abbrev pub taken : Option Opening → Command → Option Event
-taken none c = none
-taken (some o) (Open q) = none
-taken (some o) (Offer q now) =
-    if times_fit o.terms o.expiry then accepted now (accept o.terms.exponent o.bps q) else none
-taken (some o) (Ask now) = none
-taken (some o) (Fix now) = none
-taken (some o) (Withdraw now i) = some (withdrawal now i)
+taken None c = None
+taken (Some o) (Open q) = None
+taken (Some o) (Offer q now) =
+    if times_fit o.terms o.expiry then accepted now (accept o.terms.exponent o.bps q) else None
+taken (Some o) (Ask now) = None
+taken (Some o) (Fix now) = None
+taken (Some o) (Withdraw now i) = Some (withdrawal now i)
 
 -- (the freeze cuts them off, in `taken_events` below)
 unfoldable pub events : Log Command → Log Event
@@ -143,16 +142,16 @@ pub record Freeze : Type 0 where
 
 -- "The freeze is the first fix after the opening whose decision on the ledger so far is Settle or Void."
 abbrev pub decided_on : Option Opening → Log Event → ℤ → Answer
-decided_on none es now = Refused 37
-decided_on (some o) es now = decided o (candidates o es) now
+decided_on None es now = Refused 37
+decided_on (Some o) es now = decided o (candidates o es) now
 
 abbrev pub freezes : Log Command → Command → Option Freeze
-freezes ahead (Open o) = none
-freezes ahead (Offer q now) = none
-freezes ahead (Ask now) = none
+freezes ahead (Open o) = None
+freezes ahead (Offer q now) = None
+freezes ahead (Ask now) = None
 freezes ahead (Fix now) =
-    if final (decided_on (opening ahead) (events ahead) now) then some (record { ahead = ahead; now = now }) else none
-freezes ahead (Withdraw now i) = none
+    if final (decided_on (opening ahead) (events ahead) now) then Some (record { ahead = ahead; now = now }) else None
+freezes ahead (Withdraw now i) = None
 
 unfoldable pub freeze : Log Command → Option Freeze
 freeze j = first_at freezes j
@@ -165,8 +164,8 @@ taken_events j = maybe (events j) (λ z. events z.ahead) (freeze j)
 
 -- nothing before the opening; then what was opened, open with these candidates; and from the freeze on fixed with its outcome and now, by the vote (#109)
 abbrev pub since : Opening → Holdings → Option Freeze → Series
-since o h none = live o h
-since o h (some z) = fixed Order.voted o h (decided o h.candidates z.now) z.now
+since o h None = live o h
+since o h (Some z) = fixed Order.voted o h (decided o h.candidates z.now) z.now
 
 unfoldable pub ledger : Log Command → Series
 ledger j = maybe empty (λ o. since o (holdings o (taken_events j)) (freeze j)) (opening j)
@@ -190,8 +189,8 @@ pub record FairSettle (o : Opening) (es : Log Event) (m : Method) (price samples
 
 -- "the ledger passes over those that are no command of its width or name a series above 63"
 abbrev pub command_to : ℕ → Entry → Option Command
-command_to s (no_command r) = none
-command_to s (command i c) = if eqb s i then some c else none
+command_to s (no_command r) = None
+command_to s (command i c) = if eqb s i then Some c else None
 
 unfoldable pub commands_to : ℕ → Log Bytes → Log Command
 commands_to s l = collect (λ ahead e. command_to s (entry e)) l

@@ -1,9 +1,8 @@
 -- The line of text of an answer. 01: "Fields: word, series, then slot, link ("-" for none) and 0/1; or until; or method, price, samples.
 -- A refusal prints `refused` and its number, no series." "Void prints `void 3`." #103: Done is the word alone.
-use Rattle.std.specs.Prelude.{ℕ, zero, suc, ◌+◌, ◌/◌, ◌%◌, Bool, true, false, List, [], ◌∷◌, ◌++◌, ℤ, pos, negsuc, ltb, if◌then◌else◌}
+use Rattle.std.specs.Prelude.{ℕ, zero, suc, ◌+◌, ◌/◌, ◌%◌, Bool, true, false, List, [], ◌∷◌, ◌++◌, ℤ, pos, negsuc, ltb, if◌then◌else◌, Option, None, Some}
 use Prim.Native.Char.{code}
 use Prim.Native.String.{String, [] as no_text, ◌∷◌ as ◌then◌}
-use Rattle.std.proofs.Math.Option.{Option, none, some}
 use Rattle.rules.specs.Bytes.{Bytes}
 use Rattle.rules.specs.Answers.{number, Answer, Opened, Used, Wait, Settle, Refused}
 
@@ -32,8 +31,8 @@ signed_decimal (negsuc n) = ascii "-" ++ decimal (suc n)
 
 -- "slot, link ("-" for none)"
 abbrev pub index : Option ℕ → Bytes
-index none = ascii "-"
-index (some i) = decimal i
+index None = ascii "-"
+index (Some i) = decimal i
 
 -- "and 0/1": whether it is the fallback
 abbrev pub flag : Bool → Bytes

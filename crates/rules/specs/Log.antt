@@ -1,6 +1,5 @@
 -- Choices, and logs: lists that grow at their end. `l ▹ x` is the log l and then x, so l is what came ahead of x.
-use Rattle.std.specs.Prelude.{ℕ, zero, suc, ◌+◌, Bool, true, false, ◌&&◌, List, [], ◌∷◌, get_or, eqb, if◌then◌else◌}
-use Rattle.std.proofs.Math.Option.{Option, none, some}
+use Rattle.std.specs.Prelude.{ℕ, zero, suc, ◌+◌, Bool, true, false, ◌&&◌, List, [], ◌∷◌, get_or, eqb, if◌then◌else◌, Option, None, Some}
 
 -- every test of a list passes
 abbrev pub every : List Bool → Bool
@@ -12,17 +11,17 @@ every (b ∷ bs) = b && every bs
 module _ {A : Type 0} where
   infixl 25 ◌or_else◌
   abbrev pub ◌or_else◌ : Option A → Option A → Option A
-  none or_else b = b
-  some a or_else b = some a
+  None or_else b = b
+  Some a or_else b = Some a
 
   abbrev pub is_some : Option A → Bool
-  is_some none = false
-  is_some (some a) = true
+  is_some None = false
+  is_some (Some a) = true
 
 -- f of the value, or b where there is none
 abbrev pub maybe : {A B : Type 0} → B → (A → B) → Option A → B
-maybe b f none = b
-maybe b f (some a) = f a
+maybe b f None = b
+maybe b f (Some a) = f a
 
 -- ---- logs
 
@@ -43,8 +42,8 @@ module _ {A : Type 0} where
 
   -- l, and then the value if there is one
   abbrev pub put : Log A → Option A → Log A
-  put l none = l
-  put l (some x) = l ▹ x
+  put l None = l
+  put l (Some x) = l ▹ x
 
   -- l, and then those of a list
   abbrev pub puts : Log A → List A → Log A
@@ -58,17 +57,17 @@ module _ {A : Type 0} where
 
   -- the first of l that passes the test
   abbrev pub first : (A → Bool) → Log A → Option A
-  first P ε = none
-  first P (l ▹ x) = first P l or_else (if P x then some x else none)
+  first P ε = None
+  first P (l ▹ x) = first P l or_else (if P x then Some x else None)
 
   abbrev pub last : Log A → Option A
-  last ε = none
-  last (l ▹ x) = some x
+  last ε = None
+  last (l ▹ x) = Some x
 
   -- the last of l that passes the test, which sees what came ahead
   abbrev pub last_at : (Log A → A → Bool) → Log A → Option A
-  last_at P ε = none
-  last_at P (l ▹ x) = if P l x then some x else last_at P l
+  last_at P ε = None
+  last_at P (l ▹ x) = if P l x then Some x else last_at P l
 
   -- the i-th of l, from 0 on, or d where there is none
   unfoldable pub nth : A → Log A → ℕ → A
@@ -87,7 +86,7 @@ module _ {A B : Type 0} where
 
   -- what f finds first, f seeing what came ahead
   abbrev pub first_at : (Log A → A → Option B) → Log A → Option B
-  first_at f ε = none
+  first_at f ε = None
   first_at f (l ▹ x) = first_at f l or_else f l x
 
   -- all that f finds, f seeing what came ahead
@@ -113,8 +112,8 @@ all< (suc n) P = all< n P && P n
 
 -- the first i < n that passes the test
 abbrev pub find : ℕ → (ℕ → Bool) → Option ℕ
-find zero P = none
-find (suc n) P = find n P or_else (if P n then some n else none)
+find zero P = None
+find (suc n) P = find n P or_else (if P n then Some n else None)
 
 -- f at each of the n numbers from i on
 abbrev pub list_from : {A : Type 0} → ℕ → ℕ → (ℕ → A) → List A

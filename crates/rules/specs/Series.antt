@@ -1,6 +1,5 @@
 -- 01, "Commands": what a command answers on a series, and the series after it.
-use Rattle.std.specs.Prelude.{ℕ, not, List, get_or, set, replicate, ℤ, pos, leb, if◌then◌else◌}
-use Rattle.std.proofs.Math.Option.{Option, none, some}
+use Rattle.std.specs.Prelude.{ℕ, not, List, get_or, set, replicate, ℤ, pos, leb, if◌then◌else◌, Option, None, Some}
 use Rattle.rules.specs.Log.{ε, maybe}
 use Rattle.rules.specs.Answers.{Result, Answer, Opened, Wait, Done, Refused, final, is_used}
 use Rattle.rules.specs.Terms.{Terms, slots, good_terms}
@@ -66,8 +65,8 @@ answer_of (keeps a) = a
 answer_of (leaves a next) = a
 
 abbrev pub changed : Step → Option Series
-changed (keeps a) = none
-changed (leaves a next) = some next
+changed (keeps a) = None
+changed (leaves a next) = Some next
 
 -- the decision on a series that was opened so; #109: by an order, and by the vote
 abbrev pub decided_by : Order → Opening → Candidates → ℤ → Answer

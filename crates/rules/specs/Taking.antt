@@ -1,6 +1,5 @@
 -- 01, "Taking a print (`SettlementState::add_print`)". E is the expiry, now the caller's time.
-use Rattle.std.specs.Prelude.{ℕ, ◌+◌, ◌*◌, ◌-◌, ◌/◌, ◌%◌, ◌^◌, Bool, not, ◌&&◌, ◌||◌, List, [], ◌∷◌, set, ℤ, pos, ◌+ℤ◌, ◌-ℤ◌, ltb, eqb, if◌then◌else◌}
-use Rattle.std.proofs.Math.Option.{Option, none, some}
+use Rattle.std.specs.Prelude.{ℕ, ◌+◌, ◌*◌, ◌-◌, ◌/◌, ◌%◌, ◌^◌, Bool, not, ◌&&◌, ◌||◌, List, [], ◌∷◌, set, ℤ, pos, ◌+ℤ◌, ◌-ℤ◌, ltb, eqb, if◌then◌else◌, Option, None, Some}
 use Rattle.std.specs.Int.Signed.{lt_z, le_z}
 use Rattle.rules.specs.Log.{Log, ε, ◌▹◌, is_some, maybe, size, find, every}
 use Rattle.rules.specs.Bytes.{fits}
@@ -91,7 +90,7 @@ module _ (t : Terms) (E : ℤ) where
   print_answer c p =
       if not (times_fit && sum_fits c p) then Refused 0 else
       if not (usable c p) then Refused 14 else
-      Used (slot_for c p) (if is_link c p then some (size c.times) else none) (is_fallback c p)
+      Used (slot_for c p) (if is_link c p then Some (size c.times) else None) (is_fallback c p)
 
   -- each use of the print made; "Each use sets that candidate's changed time to now."
   unfoldable pub place : Candidates → Print → ℤ → Candidates

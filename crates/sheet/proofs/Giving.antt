@@ -4,7 +4,7 @@ use mathlib.Core.Path.{◌≡◌, refl, sym, ap, ◌∙◌}
 use mathlib.Core.Bool.{Bool, false}
 use native.Mathlib.Omega.{arith}
 use lib.ListN.{length, take, drop, length-drop}
-use lib.Seq.{sets, length-take-le}
+use lib.Seq.{length-take-le}
 use Rattle.rules.specs.Bytes.{Bytes}
 use Rattle.lines.specs.Lines.{line_max}
 use Rattle.journal.specs.declared.feed.Fed.{Fed}
@@ -12,7 +12,9 @@ use Rattle.journal.specs.Feed.{given}
 use Rattle.journal.specs.Parts.{on, reads}
 use Rattle.journal.proofs.Given.{Feeds}
 use Rattle.journal.proofs.Fits.{fed_taken, fed_written, fed_left}
-use Rattle.journal.proofs.Parts.{front, fed_reads}
+use Rattle.journal.proofs.Parts.{fed_reads}
+use Rattle.std.specs.List.{copy_within}
+use Rattle.std.proofs.lemmas.List.Edits.{take-paste}
 use Rattle.sheet.specs.Holds.{Holds}
 use Rattle.rules.proofs.Bytes.{drop-take}
 
@@ -24,21 +26,20 @@ module _ (last : Bool) (book part out : Bytes) (end : ℕ) (inside : end ≤ len
     pub taken : f.taken ≤ end
     taken = omega (arith, count, fed_taken last (take end part) book out fed)
 
-    left : {part₁ : Bytes} → part₁ ≡ sets part 0 (take (end - f.taken) (drop f.taken part)) → take (end - f.taken) part₁ ≡ drop f.taken (take end part)
-    left p =
-        let xs = take (end - f.taken) (drop f.taken part) in
-        let n : length xs ≡ end - f.taken = length-take-le (end - f.taken) (drop f.taken part) (omega (arith, length-drop f.taken part)) in
-        rw p (ap (λ (k : ℕ). take k (sets part 0 xs)) (sym n) ∙ front xs part (omega (arith, n)) ∙ sym (drop-take f.taken end part taken))
+    left : {part₁ : Bytes} → part₁ ≡ copy_within part f.taken end 0 → take (end - f.taken) part₁ ≡ drop f.taken (take end part)
+    left {part₁} p =
+        let n : end - f.taken ≤ length (drop f.taken part) = omega (arith, length-drop f.taken part) in
+        let z : 0 + (end - f.taken) ≡ end - f.taken = omega arith in
+        rw p (ap (λ (k : ℕ). take k (copy_within part f.taken end 0)) (sym z) ∙ take-paste part 0 (drop f.taken part) (end - f.taken) (omega arith) n) ∙ sym (drop-take f.taken end part taken)
 
-    pub gives : {held : ℕ} {part₁ : Bytes} → length part ≤ 65536 → 655360 ≤ length out
-        → (held ≡ end - f.taken) × (part₁ ≡ sets part 0 (take (end - f.taken) (drop f.taken part)))
-        → Holds (record { written = f.written; held = held; ended = f.ended }) book₁ part₁ out₁ (reads last (on book) (take end part))
-        × (f.written ≤ length out) × (last ≡ false → f.ended ≡ false → held < 46)
-    gives {held} {part₁} p o k =
+    pub gives : {part₁ : Bytes} → length part ≤ 65536 → 655360 ≤ length out → part₁ ≡ copy_within part f.taken end 0
+        → Holds (record { written = f.written; held = end - f.taken; ended = f.ended }) book₁ part₁ out₁ (reads last (on book) (take end part))
+        × (f.written ≤ length out) × (last ≡ false → f.ended ≡ false → end - f.taken < 46)
+    gives {part₁} p o k =
         let room : line_max * (length (take end part) + 9) ≤ 10 * length out = omega (arith, count) in
         let e = fed_reads last (on book) (take end part) out refl room fed in
         rw e (
-          record { booked = refl; held = ap (λ (n : ℕ). take n part₁) k.0 ∙ left k.1; lines = refl; ended = refl },
+          record { booked = refl; held = left k; lines = refl; ended = refl },
           fed_written last (take end part) book out fed,
-          λ l n. omega (arith, count, k.0, fed_left last (take end part) book out fed l n room),
+          λ l n. omega (arith, count, fed_left last (take end part) book out fed l n room),
         )

@@ -1,6 +1,6 @@
 -- A turn of the loop: one part more for the reader.
-use Prim.Native.Nat.{ℕ, ◌+◌, ◌-◌, ◌≤◌, ◌<◌}
-use mathlib.Core.Path.{◌≡◌, refl, sym, ap, ◌∙◌}
+use Prim.Native.Nat.{ℕ, ◌+◌, ◌≤◌, ◌<◌}
+use mathlib.Core.Path.{◌≡◌, refl, sym, ap, subst, ◌∙◌}
 use mathlib.Core.Bool.{Bool, true, false, ◌||◌, true≢false}
 use mathlib.Core.List.{[], ◌++◌, append_assoc, append-nil}
 use native.Mathlib.Omega.{arith}
@@ -16,9 +16,9 @@ use Rattle.journal.proofs.Parts.{any_parts}
 use Rattle.rules.specs.Book.{run}
 use Rattle.rules.specs.Journal.{journal_entries, sheet}
 use Rattle.sheet.specs.declared.Left.{Left}
-use Rattle.sheet.specs.declared.Next.{Next}
-use Rattle.sheet.specs.declared.Next.TheVariants as N
-use Rattle.std.specs.Prelude.{Option, Some, None, IfSome}
+use Rattle.sheet.specs.declared.Place.{Place}
+use Rattle.sheet.specs.declared.Failure.{Failure}
+use Rattle.std.specs.Prelude.{Option, Some, None, IfSome, Result, Ok, Err}
 use Rattle.std.specs.Io.KnownBytes.{Consumes, Appends, IsAtEnd}
 use Rattle.sheet.specs.Told.{Ends, Goes, HandsOn, Turns}
 use Rattle.sheet.specs.Holds.{Holds, at_most64, Reading, OneMore, Over}
@@ -128,15 +128,15 @@ module _ (parts : Log Bytes) (book₀ part₁ : Bytes) (held read n : ℕ) (was 
       }
 
 -- a read leaves the held bytes as they were, and puts what came behind them
-module _ (book₀ part₀ got : Bytes) (held read : ℕ) (starts : held ≤ length part₀) where
+module _ (book₀ part₀ got : Bytes) (held room read : ℕ) (starts : held ≤ length part₀) where
   abbrev part₁ : Bytes
-  part₁ = put_mid held (length part₀ - held) part₀ got
+  part₁ = put_mid held room part₀ got
 
   still : {parts : Log Bytes} → Reading parts book₀ part₀ held read → Reading parts book₀ part₁ held read
   still was =
       record {
         booked = was.booked;
-        keeps = take_put held (length part₀ - held) part₀ got starts ∙ was.keeps;
+        keeps = take_put held room part₀ got starts ∙ was.keeps;
         goes = was.goes;
         counted = was.counted;
         short = was.short;
@@ -144,16 +144,16 @@ module _ (book₀ part₀ got : Bytes) (held read : ℕ) (starts : held ≤ leng
 
   came_is : (n : ℕ) → n ≤ length got → take n (drop held part₁) ≡ take n got
   came_is n h =
-      ap (take n) (drop_at (take held part₀) (got ++ post_of held (length part₀ - held) part₀) held (length-take-le held part₀ starts))
-      ∙ take-append-le n got (post_of held (length part₀ - held) part₀) h
+      ap (take n) (drop_at (take held part₀) (got ++ post_of held room part₀) held (length-take-le held part₀ starts))
+      ∙ take-append-le n got (post_of held room part₀) h
 
-  pub hands_still : (r : Next) (last : Bool) (bytes book part : Bytes) (to₁ to : Option Bytes)
+  pub hands_still : (r : Result (Option Place) Failure) (last : Bool) (bytes book part : Bytes) (to₁ to : Option Bytes)
       → HandsOn r last bytes book₀ part₁ held read book part to₁ to → HandsOn r last bytes book₀ part₀ held read book part to₁ to
-  hands_still (N.On h n) last bytes book part to₁ to on = λ parts was. on parts (still was)
-  hands_still N.Ended last bytes book part to₁ to on = λ parts was. on parts (still was)
-  hands_still N.Failed last bytes book part to₁ to on = tt
+  hands_still (Ok (Some at)) last bytes book part to₁ to on = λ parts was. on parts (still was)
+  hands_still (Ok None) last bytes book part to₁ to on = λ parts was. on parts (still was)
+  hands_still (Err e) last bytes book part to₁ to on = tt
 
-  pub turned : (r : Next) (n : ℕ) (book part : Bytes) (from₁ from to₁ to : Option Bytes) → n ≤ length got
+  pub turned : (r : Result (Option Place) Failure) (n : ℕ) (book part : Bytes) (from₁ from to₁ to : Option Bytes) → n ≤ length got
       → Consumes from₁ from (take n got) → (n ≡ 0 → 0 < length got → IsAtEnd from) → 0 < length got
       → HandsOn r (eqb n 0) (take n (drop held part₁)) book₀ part₁ held read book part to₁ to
       → Turns r book₀ part₀ held read book part from₁ from to₁ to
@@ -206,8 +206,25 @@ if_known : {P : Bytes → Type 0} (o : Option Bytes) → ((xs : Bytes) → o ≡
 if_known None h = tt
 if_known (Some xs) h = h xs refl
 
+-- what a turn has done, when its result is known
+pub turns_as : {r q : Result (Option Place) Failure} {book₀ part₀ book part : Bytes} {held₀ read₀ : ℕ} {from₁ from to₁ to : Option Bytes} → r ≡ q
+    → Turns r book₀ part₀ held₀ read₀ book part from₁ from to₁ to → Turns q book₀ part₀ held₀ read₀ book part from₁ from to₁ to
+turns_as {book₀ = book₀} {part₀} {book} {part} {held₀} {read₀} {from₁} {from} {to₁} {to} e t = subst (λ r. Turns r book₀ part₀ held₀ read₀ book part from₁ from to₁ to) e t
+
+-- one part more has been read
+pub started_on : {at : Place} {book₀ part₀ book part : Bytes} {held₀ read₀ : ℕ} (from₀ from₁ from to₀ to₁ to : Option Bytes) → Started book₀ part₀ held₀ read₀ from₀ from₁ to₀ to₁
+    → Turns (Ok (Some at)) book₀ part₀ held₀ read₀ book part from₁ from to₁ to → Started book part at.held at.read from₀ from to₀ to
+started_on from₀ from₁ from to₀ to₁ to s t =
+    let d = t.done s.parts s.reading in
+    record {
+      parts = s.parts ▹ t.bytes;
+      reading = d.reading;
+      came = consumes_on from₀ from₁ from (joined s.parts) t.bytes s.came t.came;
+      told = d.tells to₀ s.told;
+    }
+
 module _ {book₀ part₀ book part : Bytes} {held₀ read₀ : ℕ} (from₀ from₁ from to₀ to₁ to : Option Bytes) (s : Started book₀ part₀ held₀ read₀ from₀ from₁ to₀ to₁)
-    (t : Turns N.Ended book₀ part₀ held₀ read₀ book part from₁ from to₁ to) where
+    (t : Turns (Ok None) book₀ part₀ held₀ read₀ book part from₁ from to₁ to) where
   whole_journal : (xs : Bytes) → from₀ ≡ Some xs → Appends to₀ to (sheet (journal_entries xs)) × (book ≡ run (journal_entries xs))
   whole_journal xs e =
       let c = consumes_on from₀ from₁ from (joined s.parts) t.bytes s.came t.came in

@@ -1,12 +1,12 @@
 -- What came from a reader and what a writer was told, in each turn of the loop, where their bytes are known.
-use Rattle.std.specs.Prelude.{ℕ, ◌≡◌, Bool, true, ◌||◌, [], Option}
+use Rattle.std.specs.Prelude.{ℕ, ◌≡◌, Bool, true, ◌||◌, [], Option, Some, None, Result, Ok, Err}
 use Rattle.std.specs.Io.KnownBytes.{Consumes, Appends, IsAtEnd}
 use Rattle.rules.specs.Log.{Log, ◌▹◌}
 use Rattle.rules.specs.Bytes.{Bytes}
 use Rattle.journal.specs.Parts.{Reader, reads, read_all}
 use Rattle.sheet.specs.Holds.{Reading}
-use Rattle.sheet.specs.declared.Next.{Next}
-use Rattle.sheet.specs.declared.Next.TheVariants as N
+use Rattle.sheet.specs.declared.Place.{Place}
+use Rattle.sheet.specs.declared.Failure.{Failure}
 
 -- a writer that was told the lines of r is then told those that r₁ has more
 abbrev pub Tells : Reader → Reader → Option Bytes → Option Bytes → Type 0
@@ -24,13 +24,13 @@ pub record Goes (parts : Log Bytes) (bytes book part : Bytes) (held read : ℕ) 
   pub tells : Tells (read_all parts) (read_all (parts ▹ bytes)) to₁ to
 
 -- what was done with the bytes that came, the last ones or not, whatever parts were read ahead of them
-abbrev pub HandsOn : Next → (last : Bool) (bytes book₀ part₀ : Bytes) (held₀ read₀ : ℕ) (book part : Bytes) → Option Bytes → Option Bytes → Type 0
-HandsOn (N.On held read) last bytes book₀ part₀ held₀ read₀ book part to₁ to = (parts : Log Bytes) → Reading parts book₀ part₀ held₀ read₀ → Goes parts bytes book part held read to₁ to
-HandsOn N.Ended last bytes book₀ part₀ held₀ read₀ book part to₁ to = (parts : Log Bytes) → Reading parts book₀ part₀ held₀ read₀ → Ends parts last bytes book to₁ to
-HandsOn N.Failed last bytes book₀ part₀ held₀ read₀ book part to₁ to = Unit {0}
+abbrev pub HandsOn : Result (Option Place) Failure → (last : Bool) (bytes book₀ part₀ : Bytes) (held₀ read₀ : ℕ) (book part : Bytes) → Option Bytes → Option Bytes → Type 0
+HandsOn (Ok (Some at)) last bytes book₀ part₀ held₀ read₀ book part to₁ to = (parts : Log Bytes) → Reading parts book₀ part₀ held₀ read₀ → Goes parts bytes book part at.held at.read to₁ to
+HandsOn (Ok None) last bytes book₀ part₀ held₀ read₀ book part to₁ to = (parts : Log Bytes) → Reading parts book₀ part₀ held₀ read₀ → Ends parts last bytes book to₁ to
+HandsOn (Err e) last bytes book₀ part₀ held₀ read₀ book part to₁ to = Unit {0}
 
 -- the bytes that a turn has read, the last ones if no byte came, and what was done with them
-pub record Turns (r : Next) (book₀ part₀ : Bytes) (held₀ read₀ : ℕ) (book part : Bytes) (from₁ from to₁ to : Option Bytes) : Type 0 where
+pub record Turns (r : Result (Option Place) Failure) (book₀ part₀ : Bytes) (held₀ read₀ : ℕ) (book part : Bytes) (from₁ from to₁ to : Option Bytes) : Type 0 where
   pub last : Bool
   pub bytes : Bytes
   pub came : Consumes from₁ from bytes

@@ -2,8 +2,7 @@
 // each answer to standard output.
 #![tactic(auto)]
 
-ghost use Rattle.std.specs.Prelude.{◌==◌, IfSome, ◌+◌, ◌-◌, ◌≤◌, ◌<◌, ◌≡◌, true, false, length, take, drop};
-ghost use Rattle.std.proofs.lemmas.List.Edits.{sets};
+ghost use Rattle.std.specs.Prelude.{◌==◌, IfSome, OnOk, ◌+◌, ◌≤◌, ◌<◌, ◌≡◌, false, length, take, drop};
 ghost use Rattle.std.specs.Io.KnownBytes.{Appends};
 ghost use Rattle.rules.specs.Bytes.{zeros};
 ghost use Rattle.rules.specs.Book.{run};
@@ -11,31 +10,18 @@ ghost use Rattle.rules.specs.Journal.{journal_entries, sheet};
 ghost use Rattle.rules.specs.Record.{book_size};
 ghost use Rattle.journal.specs.Parts.{on, reads};
 ghost use Rattle.sheet.specs.Told.{HandsOn, Turns};
-ghost use Rattle.sheet.specs.Holds.{Holds, at_most64, GoesOn};
+ghost use Rattle.sheet.specs.Holds.{Holds, GoesOn};
 
 use book::look::BOOK_SIZE;
 use journal::feed::feed;
 use std::io::{Read, Write};
 
-// The most that is read at once. As with the other buffer, the `ensures` gives the length alone, so
-// that nobody computes the array.
+// The most that is read at once.
 const PART: usize = 65536;
-
-fn part_buffer() -> [u8; PART]
-    ensures { 65536 ≡ length result }
-{
-    [0; PART]
-}
 
 // Room for the lines of such a part of the journal: a command has ten bytes at least, and its line
 // 96 at most.
 const LINES: usize = 655360;
-
-fn lines_buffer() -> [u8; LINES]
-    ensures { 655360 ≡ length result }
-{
-    [0; LINES]
-}
 
 // What a part of the journal leaves: the bytes of its lines, the bytes at its front that wait for
 // the rest of their command, and whether the journal has ended.
@@ -46,58 +32,43 @@ struct Left {
     ended: bool,
 }
 
-// Whether to go on: `held` bytes of an unfinished command stand at the front of part, and `read`
-// bytes of the journal were read. Else the journal has ended, or a read or a write failed.
+// How far the reading has come: `held` bytes of an unfinished command stand at the front of part,
+// and `read` bytes of the journal were read.
 #[derive(Clone, Copy)]
-enum Next {
-    On { held: usize, read: u64 },
-    Ended,
-    Failed,
+struct Place {
+    held: usize,
+    read: u64,
 }
 
-// Says what failed, and after which byte of the journal. Where that cannot be said either, there is
-// nobody left to tell.
-fn fail(err: &mut impl Write, what: &[u8], read: u64) {
-    let _ = err.write_all(what);
-    let _ = writeln!(err, "{read} of the journal");
+// What failed, and after which byte of the journal; or there were more turns than a proved loop has.
+#[derive(Clone, Copy)]
+enum Failure {
+    Read(u64),
+    Write(u64),
+    Endless,
 }
 
-// Writes the lines out, and says whether that went well.
-fn write<W: Write>(to: &mut W, err: &mut impl Write, lines: &[u8], read: u64) -> bool
-    ensures { result ≡ true → Appends (W.contents to.old) (W.contents to.new) lines.now }
+// Says what failed. Where that cannot be said either, there is nobody left to tell.
+fn tell(err: &mut impl Write, failure: Failure) {
+    let _ = match failure {
+        Failure::Read(at) => writeln!(
+            err,
+            "sheet: cannot read standard input after byte {at} of the journal"
+        ),
+        Failure::Write(at) => writeln!(
+            err,
+            "sheet: cannot write standard output after byte {at} of the journal"
+        ),
+        Failure::Endless => Ok(()),
+    };
+}
+
+// Writes the lines out, when so many bytes of the journal were read.
+fn write<W: Write>(to: &mut W, lines: &[u8], read: u64) -> Result<(), Failure>
+    ensures { OnOk result (Appends (W.contents to.old) (W.contents to.new) lines.now) }
 {
-    if to.write_all(lines).is_ok() && to.flush().is_ok() {
-        return true;
-    }
-    fail(
-        err,
-        b"sheet: cannot write standard output after byte ",
-        read,
-    );
-    false
-}
-
-// The sum, which stops at the greatest u64.
-fn plus(a: u64, n: usize) -> u64
-    ensures { result ≡ at_most64 (a + n) }
-{
-    let b = n as u64;
-    if u64::MAX - a < b { u64::MAX } else { a + b }
-}
-
-// Moves the bytes from one index to another to the front, and answers how many they are.
-fn keep(part: &mut [u8], from: usize, end: usize) -> usize
-    requires from_le_end { from ≤ end }
-    requires end_in_bounds { end ≤ length part.old }
-    ensures { (result ≡ end - from) × (part.new ≡ sets part.old 0 (take (end - from) (drop from part.old))) }
-{
-    let n = end - from;
-    let mut i: usize = 0;
-    while i < n {
-        part[i] = part[from + i];
-        i += 1;
-    }
-    n
+    to.write_all(lines).map_err(|_| Failure::Write(read))?;
+    to.flush().map_err(|_| Failure::Write(read))
 }
 
 // Gives the first bytes of part to the book, and leaves what no command has taken at its front.
@@ -109,116 +80,93 @@ fn give(book: &mut [u8], part: &mut [u8], end: usize, last: bool, out: &mut [u8]
     ensures written_in_bounds { (result.written ≤ length out.old) × (last ≡ false → result.ended ≡ false → result.held < 46) }
 {
     let fed = feed(book, &part[..end], last, out);
-    let taken = fed.taken;
+    part.copy_within(fed.taken..end, 0);
     Left {
         written: fed.written,
-        held: keep(part, taken, end),
+        held: end - fed.taken,
         ended: fed.ended,
     }
 }
 
-// Gives the n bytes behind the held ones to the book, and writes their lines.
+// Gives the n bytes behind the held ones to the book, and writes their lines. Answers where to go
+// on, or nothing when the journal has ended.
 fn hand_on<W: Write>(
     to: &mut W,
-    err: &mut impl Write,
     book: &mut [u8],
-    part: &mut [u8],
-    out: &mut [u8],
-    held: usize,
+    part: &mut [u8; PART],
+    out: &mut [u8; LINES],
+    at: Place,
     n: usize,
-    read: u64,
-) -> Next
-    requires n_in_bounds { held + n ≤ length part.old }
-    requires value { 65536 ≡ length part.old }
-    requires value_2 { 655360 ≡ length out.old }
-    ensures goes_on { GoesOn result book.old part.old held read book.new part.new }
-    ensures hands_on { HandsOn result (n == 0) (take n (drop held part.old)) book.old part.old held read book.new part.new
+) -> Result<Option<Place>, Failure>
+    requires { at.held + n ≤ length part.old }
+    ensures goes_on { GoesOn result book.old part.old at.held at.read book.new part.new }
+    ensures hands_on { HandsOn result (n == 0) (take n (drop at.held part.old)) book.old part.old at.held at.read book.new part.new
         (W.contents to.old) (W.contents to.new) }
 {
-    let end = held + n;
+    let end = at.held + n;
     let left = give(book, part, end, n == 0, out);
-    let written = left.written;
-    let after = plus(read, n);
-    if !write(to, err, &out[..written], after) {
-        return Next::Failed;
-    }
+    let read = at.read.saturating_add(n as u64);
+    write(to, &out[..left.written], read)?;
     if (n == 0) | left.ended {
-        return Next::Ended;
+        return Ok(None);
     }
-    Next::On {
+    Ok(Some(Place {
         held: left.held,
-        read: after,
-    }
+        read,
+    }))
 }
 
 // Reads once, and writes the lines of what came.
 fn turn<R: Read, W: Write>(
     from: &mut R,
     to: &mut W,
-    err: &mut impl Write,
     book: &mut [u8],
-    part: &mut [u8],
-    out: &mut [u8],
-    held: usize,
-    read: u64,
-) -> Next
-    requires held_bound { held < 46 }
-    requires value { 65536 ≡ length part.old }
-    requires value_2 { 655360 ≡ length out.old }
-    ensures goes_on { GoesOn result book.old part.old held read book.new part.new }
-    ensures turns { Turns result book.old part.old held read book.new part.new
+    part: &mut [u8; PART],
+    out: &mut [u8; LINES],
+    at: Place,
+) -> Result<Option<Place>, Failure>
+    requires { at.held < 46 }
+    ensures goes_on { GoesOn result book.old part.old at.held at.read book.new part.new }
+    ensures turns { Turns result book.old part.old at.held at.read book.new part.new
         (R.remaining from.old) (R.remaining from.new) (W.contents to.old) (W.contents to.new) }
 {
-    match from.read(&mut part[held..]) {
-        Ok(n) => hand_on(to, err, book, part, out, held, n, read),
-        Err(_) => {
-            fail(err, b"sheet: cannot read standard input after byte ", read);
-            Next::Failed
-        }
-    }
+    let Ok(n) = from.read(&mut part[at.held..]) else {
+        return Err(Failure::Read(at.read));
+    };
+    hand_on(to, book, part, out, at, n)
 }
 
-// Gives the whole journal to the book, and writes its sheet. Answers whether the journal has ended,
-// and not the reading of it or the writing.
+// Gives the whole journal to the book, and writes its sheet.
 fn run<R: Read, W: Write>(
     from: &mut R,
     to: &mut W,
-    err: &mut impl Write,
     book: &mut [u8],
-    part: &mut [u8],
-    out: &mut [u8],
-) -> bool
-    requires book_value { book.old ≡ zeros book_size }
-    requires value { 65536 ≡ length part.old }
-    requires value_2 { 655360 ≡ length out.old }
-    ensures written { result ≡ true → IfSome (R.remaining from.old) (λ journal.
-        Appends (W.contents to.old) (W.contents to.new) (sheet (journal_entries journal))) }
-    ensures booked { result ≡ true → IfSome (R.remaining from.old) (λ journal. book.new ≡ run (journal_entries journal)) }
+    part: &mut [u8; PART],
+    out: &mut [u8; LINES],
+) -> Result<(), Failure>
+    requires { book.old ≡ zeros book_size }
+    ensures written { OnOk result (IfSome (R.remaining from.old) (λ journal.
+        Appends (W.contents to.old) (W.contents to.new) (sheet (journal_entries journal)))) }
+    ensures booked { OnOk result (IfSome (R.remaining from.old) (λ journal. book.new ≡ run (journal_entries journal))) }
 {
-    let mut held: usize = 0;
-    let mut read: u64 = 0;
+    let mut at = Place { held: 0, read: 0 };
     // A proved loop has to end, and nothing says that an input does.
-    let mut turns = u64::MAX;
-    while turns > 0 {
-        match turn(from, to, err, book, part, out, held, read) {
-            Next::On { held: h, read: r } => {
-                held = h;
-                read = r;
-            }
-            Next::Ended => return true,
-            Next::Failed => return false,
-        }
-        turns -= 1;
+    for _ in 0..u64::MAX {
+        let Some(next) = turn(from, to, book, part, out, at)? else {
+            return Ok(());
+        };
+        at = next;
     }
-    false
+    Err(Failure::Endless)
 }
 
 fn main(rt: HostRuntime) {
     let mut book = [0u8; BOOK_SIZE];
-    let mut part = part_buffer();
-    let mut out = lines_buffer();
+    let mut part = [0u8; PART];
+    let mut out = [0u8; LINES];
     let mut from = rt.stdin();
     let mut to = rt.stdout();
-    let mut err = rt.stderr();
-    run(&mut from, &mut to, &mut err, &mut book, &mut part, &mut out);
+    if let Err(failure) = run(&mut from, &mut to, &mut book, &mut part, &mut out) {
+        tell(&mut rt.stderr(), failure);
+    }
 }

@@ -3,10 +3,10 @@
 #![tactic(auto)]
 
 ghost use Rattle.std.specs.Prelude.{ℕ, ◌<◌, List, length, take, IfOk};
-ghost use Rattle.std.specs.Counts.{IsPrefixLen};
 ghost use Rattle.std.specs.Io.{ReadsAtMost};
 ghost use Rattle.std.specs.Io.KnownBytes.{Consumes, IsAtEnd};
 
+use arrayvec::ArrayString;
 use journal::sheet::write_sheet;
 use std::io::Read;
 use std::rt::Files;
@@ -17,9 +17,25 @@ const JOURNAL: usize = 4096;
 
 const SHEET: usize = 65536;
 
-fn print(rt: &impl Print, text: &[u8]) -> io::Result<()> {
-    rt.write_all(text)
-}
+// More bytes than the name of a file in data/ has.
+const NAME: usize = 64;
+
+const EXAMPLES: [&str; 14] = [
+    "paper",
+    "window",
+    "next_print",
+    "partial_next_print",
+    "partial_window",
+    "fallback",
+    "void",
+    "hostile_day",
+    "before_1970",
+    "withdraw",
+    "voted",
+    "scheduled",
+    "posted_in_order",
+    "posted_late",
+];
 
 // Reads until buf is full or nothing is left, and answers how many bytes it put at the front of
 // buf.
@@ -29,6 +45,7 @@ fn read_full<R: Read>(reader: &mut R, buf: &mut [u8]) -> io::Result<usize>
     ensures end { IfOk result (λ n. n < length buf.new → IsAtEnd (R.remaining reader.new)) }
 {
     let mut done = 0;
+    // No `for`: how far a turn goes is what the read gave.
     while done < buf.len() {
         let n = reader.read(&mut buf[done..])?;
         if n == 0 {
@@ -39,143 +56,73 @@ fn read_full<R: Read>(reader: &mut R, buf: &mut [u8]) -> io::Result<usize>
     Ok(done)
 }
 
-// Reads a whole file to the front of buf and answers its length; 0 where it cannot be read or does
-// not fit.
-fn load<R: Files>(rt: &R, path: &str, buf: &mut [u8]) -> usize
-    ensures { IsPrefixLen result buf.new }
-{
-    let Ok(mut file) = fs::open(rt, path) else {
-        return 0;
-    };
-    match read_full(&mut file, buf) {
-        Ok(n) if n < buf.len() => n,
-        _ => 0,
+// Reads a whole file to the front of buf; none where it cannot be read, is empty or does not fit.
+fn load<'a, R: Files>(rt: &R, name: &str, kind: &str, buf: &'a mut [u8]) -> Option<&'a [u8]> {
+    let mut path: ArrayString<NAME> = ArrayString::new();
+    path.try_push_str(name).ok()?;
+    path.try_push_str(kind).ok()?;
+    let mut file = fs::open(rt, path.as_str()).ok()?;
+    let n = read_full(&mut file, buf).ok()?;
+    if n == 0 || n == buf.len() {
+        return None;
     }
+    Some(&buf[..n])
 }
 
-// Writes the sheet of a journal to the front of out and answers its length.
-fn sheet_of(journal: &[u8], out: &mut [u8]) -> usize
-    ensures { IsPrefixLen result out.new }
-{
-    write_sheet(journal, out)
+// Writes the sheet of a journal to the front of out.
+fn sheet_of<'a>(journal: &[u8], out: &'a mut [u8]) -> &'a [u8] {
+    let n = write_sheet(journal, out);
+    &out[..n]
 }
 
 // The first index at which two texts differ, or the length of the shorter.
 fn first_difference(a: &[u8], b: &[u8]) -> usize {
-    let mut i: usize = 0;
-    while i < a.len() {
-        if b.len() <= i {
-            return i;
-        }
-        if a[i] != b[i] {
-            return i;
-        }
-        i += 1;
-    }
-    i
-}
-
-fn counted(lines: u64, byte: u8) -> u64 {
-    if byte != b'\n' {
-        return lines;
-    }
-    if lines == u64::MAX {
-        return lines;
-    }
-    lines + 1
+    let shorter = a.len().min(b.len());
+    a.iter().zip(b).position(|(x, y)| x != y).unwrap_or(shorter)
 }
 
 // How many lines end before an index.
-fn lines_before(text: &[u8], end: usize) -> u64 {
-    let mut lines: u64 = 0;
-    let mut i: usize = 0;
-    while i < text.len() {
-        if end <= i {
-            return lines;
-        }
-        lines = counted(lines, text[i]);
-        i += 1;
-    }
-    lines
+fn lines_before(text: &[u8], end: usize) -> usize {
+    text.iter().take(end).filter(|x| **x == b'\n').count()
 }
 
-fn compare(rt: &impl Print, ours: &[u8], expected: &[u8]) -> io::Result<()> {
-    let at = first_difference(ours, expected);
-    if at == ours.len() && at == expected.len() {
-        print(rt, b": same, lines ")?;
-    } else {
-        print(rt, b": differs after line ")?;
-    }
-    let lines = lines_before(ours, at);
-    print!(rt; "{lines}")?;
-    print(rt, b"\n")
+// Whether a sheet is the one in data/, and how many lines are the same from the front on.
+#[derive(Clone, Copy)]
+struct Compared {
+    same: bool,
+    lines: usize,
 }
 
-fn example<R: Files + Print>(
-    rt: &R,
-    name: &[u8],
-    journal_path: &str,
-    sheet_path: &str,
-) -> io::Result<()> {
-    print(rt, name)?;
+// None where the journal or the sheet in data/ cannot be read, or is too long.
+fn compare<R: Files>(rt: &R, name: &str) -> Option<Compared> {
     let mut journal = [0u8; JOURNAL];
-    let n = load(rt, journal_path, &mut journal);
+    let journal = load(rt, name, ".journal", &mut journal)?;
     let mut expected = [0u8; SHEET];
-    let m = load(rt, sheet_path, &mut expected);
-    if n == 0 || m == 0 {
-        return print(
-            rt,
-            b": its journal or its sheet cannot be read, or is too long\n",
-        );
-    }
+    let expected = load(rt, name, ".sheet", &mut expected)?;
     let mut out = [0u8; SHEET];
-    let written = sheet_of(&journal[..n], &mut out);
-    compare(rt, &out[..written], &expected[..m])
+    let ours = sheet_of(journal, &mut out);
+    let at = first_difference(ours, expected);
+    Some(Compared {
+        same: ours == expected,
+        lines: lines_before(ours, at),
+    })
+}
+
+fn example<R: Files + Print>(rt: &R, name: &str) -> io::Result<()> {
+    let Some(compared) = compare(rt, name) else {
+        return println!(rt; "{name}: its journal or its sheet cannot be read, or is too long");
+    };
+    let lines = compared.lines;
+    if compared.same {
+        println!(rt; "{name}: same, lines {lines}")
+    } else {
+        println!(rt; "{name}: differs after line {lines}")
+    }
 }
 
 fn main(rt: HostRuntime) -> io::Result<()> {
-    example(&rt, b"paper", "paper.journal", "paper.sheet")?;
-    example(&rt, b"window", "window.journal", "window.sheet")?;
-    example(&rt, b"next_print", "next_print.journal", "next_print.sheet")?;
-    example(
-        &rt,
-        b"partial_next_print",
-        "partial_next_print.journal",
-        "partial_next_print.sheet",
-    )?;
-    example(
-        &rt,
-        b"partial_window",
-        "partial_window.journal",
-        "partial_window.sheet",
-    )?;
-    example(&rt, b"fallback", "fallback.journal", "fallback.sheet")?;
-    example(&rt, b"void", "void.journal", "void.sheet")?;
-    example(
-        &rt,
-        b"hostile_day",
-        "hostile_day.journal",
-        "hostile_day.sheet",
-    )?;
-    example(
-        &rt,
-        b"before_1970",
-        "before_1970.journal",
-        "before_1970.sheet",
-    )?;
-    example(&rt, b"withdraw", "withdraw.journal", "withdraw.sheet")?;
-    example(&rt, b"voted", "voted.journal", "voted.sheet")?;
-    example(&rt, b"scheduled", "scheduled.journal", "scheduled.sheet")?;
-    example(
-        &rt,
-        b"posted_in_order",
-        "posted_in_order.journal",
-        "posted_in_order.sheet",
-    )?;
-    example(
-        &rt,
-        b"posted_late",
-        "posted_late.journal",
-        "posted_late.sheet",
-    )
+    for name in EXAMPLES {
+        example(&rt, name)?;
+    }
+    Ok(())
 }

@@ -5,9 +5,8 @@ ghost use Rattle.rules.specs.Book.{record_at, replaced};
 ghost use Rattle.withdrawals.specs.Freed.{CanFree, freed_parts};
 
 use crate::freed::freed;
-use book::look::{RECORD_SIZE, SLOT_PRICES_AT};
-use core_uses::uses::Index;
-use fields::read::u64_at;
+use book::look::{RECORD_SIZE, SLOT_PRICES_AT, look};
+use endian::LittleEndian;
 use record_read::contents::read_contents;
 use record_store::store::write_open;
 
@@ -16,18 +15,18 @@ pub(crate) fn store_freed(book: &mut [u8], series: u8, slot: u8, now: i64)
     requires { CanFree book.old series slot }
     ensures { book.new ≡ replaced series (open_record (opening_in (record_at series book.old)) (freed_parts (parts_in (record_at series book.old)) slot (get_or (prices_in (record_at series book.old)) slot 0) now) (set (prices_in (record_at series book.old)) slot 0)) book.old }
 {
-    let at = series as usize * RECORD_SIZE;
-    let end = at + RECORD_SIZE;
-    let c = read_contents(&book[at..end]);
-    let price = u64_at(&book[at..end], SLOT_PRICES_AT + 8 * slot as usize);
+    let record = look(&book[..], series);
+    let c = read_contents(record);
+    let price = u64::read(record, SLOT_PRICES_AT + 8 * slot as usize);
     let next = freed(c.state, slot, price, now);
+    let at = series as usize * RECORD_SIZE;
     write_open(
-        &mut book[at..end],
+        &mut book[at..at + RECORD_SIZE],
         c.params,
         c.max_conf_bps,
         c.expiry,
         next,
-        Index::At(slot),
+        Some(slot),
         0,
     );
 }

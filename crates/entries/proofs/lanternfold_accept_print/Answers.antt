@@ -1,6 +1,6 @@
-use mathlib.Core.Path.{sym, ap, ◌∙◌}
+use mathlib.Core.Path.{sym}
 use mir.Facts.{to_z-of_z}
-use Rattle.core_prices.specs.Prints.{print_of, print_result_of}
+use Rattle.core_prices.specs.Prints.{print_of}
 use Rattle.entries.proofs.lanternfold_accept_print.Goals as goal
 
 pub returns : goal.returns
@@ -11,5 +11,5 @@ returns c =
     let fe = c.ranges.expo in
     let ft = c.ranges.publish_time in
     let fv = c.ranges.prev_publish_time in
-    let q = simp to_z-of_z at (sym c.accept_print-r.ensures ∙ ap print_result_of c.in-Ok.is) in
+    let q = simp to_z-of_z at (sym c.in-Ok.ensures) in
     (rw q, rw q c.price.ensures)

@@ -7,7 +7,8 @@ ghost use Rattle.core_decide.specs.Decisions.{decision_of, order_of};
 ghost use Rattle.metalbook_core.specs.States.{state_of};
 
 use crate::settlement::state::SettlementState;
-pub use core_decide::decide::{Decision, DecisionResult, MethodResult, Order, SettleMethod};
+pub use core_decide::decide::{Decision, Order, SettleMethod};
+use core_terms::error::CoreError;
 use core_terms::params::OracleParams;
 use core_terms::units::UnixTimestamp;
 
@@ -20,7 +21,7 @@ impl SettlementState {
         expiry: UnixTimestamp,
         now: i64,
         order: Order,
-    ) -> DecisionResult
+    ) -> Result<Decision, CoreError>
         ensures { decision_of result ≡ decide_call (order_of order) (terms_of params) expiry.0 (state_of self) now }
     {
         let p = self.parts;
@@ -28,7 +29,12 @@ impl SettlementState {
     }
 
     // The same by the vote.
-    pub fn decide(self, params: OracleParams, expiry: UnixTimestamp, now: i64) -> DecisionResult
+    pub fn decide(
+        self,
+        params: OracleParams,
+        expiry: UnixTimestamp,
+        now: i64,
+    ) -> Result<Decision, CoreError>
         ensures { decision_of result ≡ decide_call voted (terms_of params) expiry.0 (state_of self) now }
     {
         let p = self.parts;

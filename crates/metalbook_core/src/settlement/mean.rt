@@ -1,2 +1,2 @@
 // The mean of prices.
-pub use core_prices::mean::{PriceResult, to_atoms};
+pub use core_prices::mean::to_atoms;

@@ -1,2 +1,2 @@
 // Prints, and their acceptance.
-pub use core_prices::print::{Print, PrintResult, Quote, accept_print};
+pub use core_prices::print::{Print, Quote, accept_print};

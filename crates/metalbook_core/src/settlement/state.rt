@@ -16,16 +16,10 @@ pub struct SettlementState {
     pub parts: SettlementParts,
 }
 
-#[derive(Clone, Copy)]
-pub enum Check {
-    Ok,
-    Err(CoreError),
-}
-
 // The answer, and beside it the state, which holds arrays.
 #[derive(Clone, Copy)]
 pub struct Restored {
-    pub result: Check,
+    pub result: Result<(), CoreError>,
     pub state: SettlementState,
 }
 
@@ -50,21 +44,15 @@ impl SettlementState {
     pub fn restore(params: OracleParams, p: SettlementParts) -> Restored
         ensures { (restored_of result ≡ restore (terms_of params) (stored_of p)) × (state_of result.state ≡ value_or (parts_of no_candidates) (restore (terms_of params) (stored_of p))) }
     {
-        if !params.in_range() {
-            return Restored {
-                result: Check::Err(CoreError::InvalidOracleParams),
+        match p.check(params) {
+            Ok(()) => Restored {
+                result: Ok(()),
+                state: SettlementState { parts: p },
+            },
+            Err(e) => Restored {
+                result: Err(e),
                 state: SettlementState::empty(),
-            };
-        }
-        if !p.in_range(params) {
-            return Restored {
-                result: Check::Err(CoreError::InvariantViolated),
-                state: SettlementState::empty(),
-            };
-        }
-        Restored {
-            result: Check::Ok,
-            state: SettlementState { parts: p },
+            },
         }
     }
 

@@ -8,14 +8,15 @@ ghost use Rattle.metalbook_core.specs.States.{state_of};
 
 use crate::settlement::state::SettlementState;
 use core_prices::print::{Print, Quote};
-pub use core_take::take::{Index, PrintUse, PrintUseResult};
+pub use core_take::take::PrintUse;
+use core_terms::error::CoreError;
 use core_terms::params::OracleParams;
 use core_terms::units::UnixTimestamp;
 
 // The answer, and beside it the state, which holds arrays.
 #[derive(Clone, Copy)]
 pub struct Added {
-    pub result: PrintUseResult,
+    pub result: Result<PrintUse, CoreError>,
     pub state: SettlementState,
 }
 
@@ -36,7 +37,7 @@ impl SettlementState {
         let result = r.result;
         let next = r.state;
         Added {
-            result: result,
+            result,
             state: SettlementState { parts: next },
         }
     }
@@ -58,7 +59,7 @@ impl SettlementState {
         let result = r.result;
         let next = r.state;
         Added {
-            result: result,
+            result,
             state: SettlementState { parts: next },
         }
     }

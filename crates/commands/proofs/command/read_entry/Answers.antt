@@ -1,12 +1,10 @@
-use mathlib.Core.Path.{refl, ◌∙◌}
 use native.Mathlib.Omega.{arith}
-use lib.ListN.{get_or}
-use borrow.Author.Tests.{ne_eqb}
+use mathlib.Core.Path.{◌∙◌}
 use Rattle.commands.proofs.Entries.{entry_none, entry-from}
 use Rattle.commands.proofs.command.read_entry.Goals as goal
 
-pub returns-then-bytes-eq0 : goal.returns-then-bytes-eq0
-returns-then-bytes-eq0 c = entry_none c.args.bytes.now (omega arith)
+pub returns-in_default : goal.returns-in_default
+returns-in_default c = entry_none c.args.bytes.now (omega arith)
 
 pub returns-in-1 : goal.returns-in-1
 returns-in-1 c = c.open_entry.ensures ∙ entry-from c.args.bytes.now (omega arith) c.in-1.is
@@ -22,16 +20,3 @@ returns-in-4 c = c.fix_entry.ensures ∙ entry-from c.args.bytes.now (omega arit
 
 pub returns-in-6 : goal.returns-in-6
 returns-in-6 c = c.withdraw_entry.ensures ∙ entry-from c.args.bytes.now (omega arith) c.in-6.is
-
-pub returns-in_default : goal.returns-in_default
-returns-in_default c =
-    let l = c.args.bytes.now in
-    let others = c.before.in_default.in_default-own.rest in
-    let e = entry-from l (omega arith) refl in
-    simp (
-      ne_eqb (get_or l 0 0) 1 others.0.0.0.0.1,
-      ne_eqb (get_or l 0 0) 2 others.0.0.0.1,
-      ne_eqb (get_or l 0 0) 3 others.0.0.1,
-      ne_eqb (get_or l 0 0) 4 others.0.1,
-      ne_eqb (get_or l 0 0) 6 others.1,
-    ) at e

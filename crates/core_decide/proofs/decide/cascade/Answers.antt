@@ -1,3 +1,4 @@
+use Rattle.std.specs.Prelude.{Some}
 use Prim.Native.Nat.{◌<◌, ◌^◌}
 use mathlib.Core.Path.{◌≡◌, sym}
 use mathlib.Core.Bool.{true, false}
@@ -15,7 +16,6 @@ use Rattle.rules.specs.Decision.{ones}
 use Rattle.rules.specs.State.{candidates_of}
 use Rattle.rules.proofs.Logs.{size-front}
 use Rattle.numbers.specs.Times.{time_of}
-use Rattle.numbers.specs.declared.time.Time.TheVariants.{At}
 use Rattle.numbers.proofs.Times.{at_is, at_fits}
 use Rattle.core_terms.specs.Params.{terms_of}
 use Rattle.core_parts.specs.States.{stored_of}
@@ -47,7 +47,7 @@ returns-then-slots-n c =
     let i1 = h.before.before in
     let s = i1.before in
     let a = s.args in
-    full ((terms_of s.args.p)) a.expiry ((candidates_of (stored_of s.args.s))) a.now (order_of a.order) ((let h : lt_z i1.args.now i1.args.expiry ≡ false = let s = i1.before in test false s.args.now s.args.expiry s.ranges.now s.ranges.expiry i1.if-now-expiry.false in h)) (let h : (fits ((h.args.expiry +ℤ pos h.args.p.hard_deadline_s)) ≡ true) × (h.in-At.hard ≡ (h.args.expiry +ℤ pos h.args.p.hard_deadline_s)) = at_is h.in-At.hard ((h.args.expiry +ℤ pos h.args.p.hard_deadline_s)) ((let h : At h.in-At.hard ≡ time_of ((h.args.expiry +ℤ pos h.args.p.hard_deadline_s)) = let s = h.before.before.before in sum_is s.args.expiry s.args.p.hard_deadline_s s.ranges.expiry h.after.result h.after.ensures h.in-At.hard h.in-At.is in h)) in h).0 ((count.ones s.args.s.filled_slots)) ((let h : (count.ones b.args.s.filled_slots) ≡ ones b.args.s.filled_slots = ones-same _ (let x : b.args.s.filled_slots < 2 ^ 32 = search rules in x) in h)) i2.slots.result i2.slots.ensures
+    full ((terms_of s.args.p)) a.expiry ((candidates_of (stored_of s.args.s))) a.now (order_of a.order) ((let h : lt_z i1.args.now i1.args.expiry ≡ false = let s = i1.before in test false s.args.now s.args.expiry s.ranges.now s.ranges.expiry i1.if-now-expiry.false in h)) (let h : (fits ((h.args.expiry +ℤ pos h.args.p.hard_deadline_s)) ≡ true) × (h.in-Some.hard ≡ (h.args.expiry +ℤ pos h.args.p.hard_deadline_s)) = at_is h.in-Some.hard ((h.args.expiry +ℤ pos h.args.p.hard_deadline_s)) ((let h : Some h.in-Some.hard ≡ time_of ((h.args.expiry +ℤ pos h.args.p.hard_deadline_s)) = let s = h.before.before.before in sum_is s.args.expiry s.args.p.hard_deadline_s s.ranges.expiry h.after.result h.after.ensures h.in-Some.hard h.in-Some.is in h)) in h).0 ((count.ones s.args.s.filled_slots)) ((let h : (count.ones b.args.s.filled_slots) ≡ ones b.args.s.filled_slots = ones-same _ (let x : b.args.s.filled_slots < 2 ^ 32 = search rules in x) in h)) i2.slots.result i2.slots.ensures
     (let x : SFits w8 c.args.p.expo = search rules in x) i2.if-slots-n.true c.settle.ensures
 
 pub returns-then-p-n : goal.returns-then-p-n
@@ -61,7 +61,7 @@ returns-then-p-n c =
     let i1 = h.before.before in
     let s = i1.before in
     let a = s.args in
-    window ((terms_of s.args.p)) a.expiry ((candidates_of (stored_of s.args.s))) a.now (order_of a.order) ((let h : lt_z i1.args.now i1.args.expiry ≡ false = let s = i1.before in test false s.args.now s.args.expiry s.ranges.now s.ranges.expiry i1.if-now-expiry.false in h)) (let h : (fits ((h.args.expiry +ℤ pos h.args.p.hard_deadline_s)) ≡ true) × (h.in-At.hard ≡ (h.args.expiry +ℤ pos h.args.p.hard_deadline_s)) = at_is h.in-At.hard ((h.args.expiry +ℤ pos h.args.p.hard_deadline_s)) ((let h : At h.in-At.hard ≡ time_of ((h.args.expiry +ℤ pos h.args.p.hard_deadline_s)) = let s = h.before.before.before in sum_is s.args.expiry s.args.p.hard_deadline_s s.ranges.expiry h.after.result h.after.ensures h.in-At.hard h.in-At.is in h)) in h).0 ((count.ones s.args.s.filled_slots)) ((let h : (count.ones b.args.s.filled_slots) ≡ ones b.args.s.filled_slots = ones-same _ (let x : b.args.s.filled_slots < 2 ^ 32 = search rules in x) in h)) i2.slots.result i2.slots.ensures
+    window ((terms_of s.args.p)) a.expiry ((candidates_of (stored_of s.args.s))) a.now (order_of a.order) ((let h : lt_z i1.args.now i1.args.expiry ≡ false = let s = i1.before in test false s.args.now s.args.expiry s.ranges.now s.ranges.expiry i1.if-now-expiry.false in h)) (let h : (fits ((h.args.expiry +ℤ pos h.args.p.hard_deadline_s)) ≡ true) × (h.in-Some.hard ≡ (h.args.expiry +ℤ pos h.args.p.hard_deadline_s)) = at_is h.in-Some.hard ((h.args.expiry +ℤ pos h.args.p.hard_deadline_s)) ((let h : Some h.in-Some.hard ≡ time_of ((h.args.expiry +ℤ pos h.args.p.hard_deadline_s)) = let s = h.before.before.before in sum_is s.args.expiry s.args.p.hard_deadline_s s.ranges.expiry h.after.result h.after.ensures h.in-Some.hard h.in-Some.is in h)) in h).0 ((count.ones s.args.s.filled_slots)) ((let h : (count.ones b.args.s.filled_slots) ≡ ones b.args.s.filled_slots = ones-same _ (let x : b.args.s.filled_slots < 2 ^ 32 = search rules in x) in h)) i2.slots.result i2.slots.ensures
     i2.if-slots-n.false s.ranges.expiry s.ranges.now
     l.later-t.result (let x : SFits w64 l.args.s.window_changed = search rules in x) l.later-t.ensures (omega (arith, i3.if-p-n.true)) c.settle_from.ensures
 
@@ -76,7 +76,7 @@ returns-then-p-s c =
     let i1 = h.before.before in
     let s = i1.before in
     let a = s.args in
-    next_print ((terms_of s.args.p)) a.expiry ((candidates_of (stored_of s.args.s))) a.now (order_of a.order) ((let h : lt_z i1.args.now i1.args.expiry ≡ false = let s = i1.before in test false s.args.now s.args.expiry s.ranges.now s.ranges.expiry i1.if-now-expiry.false in h)) (let h : (fits ((h.args.expiry +ℤ pos h.args.p.hard_deadline_s)) ≡ true) × (h.in-At.hard ≡ (h.args.expiry +ℤ pos h.args.p.hard_deadline_s)) = at_is h.in-At.hard ((h.args.expiry +ℤ pos h.args.p.hard_deadline_s)) ((let h : At h.in-At.hard ≡ time_of ((h.args.expiry +ℤ pos h.args.p.hard_deadline_s)) = let s = h.before.before.before in sum_is s.args.expiry s.args.p.hard_deadline_s s.ranges.expiry h.after.result h.after.ensures h.in-At.hard h.in-At.is in h)) in h).0 ((count.ones s.args.s.filled_slots)) ((let h : (count.ones b.args.s.filled_slots) ≡ ones b.args.s.filled_slots = ones-same _ (let x : b.args.s.filled_slots < 2 ^ 32 = search rules in x) in h)) i2.slots.result i2.slots.ensures
+    next_print ((terms_of s.args.p)) a.expiry ((candidates_of (stored_of s.args.s))) a.now (order_of a.order) ((let h : lt_z i1.args.now i1.args.expiry ≡ false = let s = i1.before in test false s.args.now s.args.expiry s.ranges.now s.ranges.expiry i1.if-now-expiry.false in h)) (let h : (fits ((h.args.expiry +ℤ pos h.args.p.hard_deadline_s)) ≡ true) × (h.in-Some.hard ≡ (h.args.expiry +ℤ pos h.args.p.hard_deadline_s)) = at_is h.in-Some.hard ((h.args.expiry +ℤ pos h.args.p.hard_deadline_s)) ((let h : Some h.in-Some.hard ≡ time_of ((h.args.expiry +ℤ pos h.args.p.hard_deadline_s)) = let s = h.before.before.before in sum_is s.args.expiry s.args.p.hard_deadline_s s.ranges.expiry h.after.result h.after.ensures h.in-Some.hard h.in-Some.is in h)) in h).0 ((count.ones s.args.s.filled_slots)) ((let h : (count.ones b.args.s.filled_slots) ≡ ones b.args.s.filled_slots = ones-same _ (let x : b.args.s.filled_slots < 2 ^ 32 = search rules in x) in h)) i2.slots.result i2.slots.ensures
     i2.if-slots-n.false s.ranges.expiry s.ranges.now i3.if-p-n.false a.s.next_len ((let h : s.args.s.next_len ≡ size (candidates_of (stored_of s.args.s)).times = sym (size-front (pos 0) s.args.s.next_len s.args.s.next_times) in h)) i4.if-p-s.true c.chain_from.ensures
 
 pub returns : goal.returns
@@ -90,7 +90,7 @@ returns c =
     let i1 = h.before.before in
     let s = i1.before in
     let a = s.args in
-    let fh = at_fits h.in-At.hard ((s.args.expiry +ℤ pos s.args.p.hard_deadline_s)) ((let h : At h.in-At.hard ≡ time_of ((h.args.expiry +ℤ pos h.args.p.hard_deadline_s)) = let s = h.before.before.before in let call = h.before in sum_is s.args.expiry s.args.p.hard_deadline_s s.ranges.expiry call.after.result call.after.ensures h.in-At.hard h.in-At.is in h)) in
-    partials ((terms_of s.args.p)) a.expiry ((candidates_of (stored_of s.args.s))) a.now (order_of a.order) ((let h : lt_z i1.args.now i1.args.expiry ≡ false = let s = i1.before in test false s.args.now s.args.expiry s.ranges.now s.ranges.expiry i1.if-now-expiry.false in h)) (let h : (fits ((h.args.expiry +ℤ pos h.args.p.hard_deadline_s)) ≡ true) × (h.in-At.hard ≡ (h.args.expiry +ℤ pos h.args.p.hard_deadline_s)) = at_is h.in-At.hard ((h.args.expiry +ℤ pos h.args.p.hard_deadline_s)) ((let h : At h.in-At.hard ≡ time_of ((h.args.expiry +ℤ pos h.args.p.hard_deadline_s)) = let s = h.before.before.before in let call = h.before in sum_is s.args.expiry s.args.p.hard_deadline_s s.ranges.expiry call.after.result call.after.ensures h.in-At.hard h.in-At.is in h)) in h).0 ((count.ones s.args.s.filled_slots)) ((let h : (count.ones b.args.s.filled_slots) ≡ ones b.args.s.filled_slots = ones-same _ (let x : b.args.s.filled_slots < 2 ^ 32 = search rules in x) in h)) i2.slots.result i2.slots.ensures
+    let fh = at_fits h.in-Some.hard ((s.args.expiry +ℤ pos s.args.p.hard_deadline_s)) ((let h : Some h.in-Some.hard ≡ time_of ((h.args.expiry +ℤ pos h.args.p.hard_deadline_s)) = let s = h.before.before.before in let call = h.before in sum_is s.args.expiry s.args.p.hard_deadline_s s.ranges.expiry call.after.result call.after.ensures h.in-Some.hard h.in-Some.is in h)) in
+    partials ((terms_of s.args.p)) a.expiry ((candidates_of (stored_of s.args.s))) a.now (order_of a.order) ((let h : lt_z i1.args.now i1.args.expiry ≡ false = let s = i1.before in test false s.args.now s.args.expiry s.ranges.now s.ranges.expiry i1.if-now-expiry.false in h)) (let h : (fits ((h.args.expiry +ℤ pos h.args.p.hard_deadline_s)) ≡ true) × (h.in-Some.hard ≡ (h.args.expiry +ℤ pos h.args.p.hard_deadline_s)) = at_is h.in-Some.hard ((h.args.expiry +ℤ pos h.args.p.hard_deadline_s)) ((let h : Some h.in-Some.hard ≡ time_of ((h.args.expiry +ℤ pos h.args.p.hard_deadline_s)) = let s = h.before.before.before in let call = h.before in sum_is s.args.expiry s.args.p.hard_deadline_s s.ranges.expiry call.after.result call.after.ensures h.in-Some.hard h.in-Some.is in h)) in h).0 ((count.ones s.args.s.filled_slots)) ((let h : (count.ones b.args.s.filled_slots) ≡ ones b.args.s.filled_slots = ones-same _ (let x : b.args.s.filled_slots < 2 ^ 32 = search rules in x) in h)) i2.slots.result i2.slots.ensures
     i2.if-slots-n.false s.ranges.expiry s.ranges.now i3.if-p-n.false a.s.next_len ((let h : s.args.s.next_len ≡ size (candidates_of (stored_of s.args.s)).times = sym (size-front (pos 0) s.args.s.next_len s.args.s.next_times) in h)) i4.if-p-s.false
-    (c.partial.ensures a.expiry (rw to_z-of_z (let h : (fits ((h.args.expiry +ℤ pos h.args.p.hard_deadline_s)) ≡ true) × (h.in-At.hard ≡ (h.args.expiry +ℤ pos h.args.p.hard_deadline_s)) = at_is h.in-At.hard ((h.args.expiry +ℤ pos h.args.p.hard_deadline_s)) ((let h : At h.in-At.hard ≡ time_of ((h.args.expiry +ℤ pos h.args.p.hard_deadline_s)) = let s = h.before.before.before in let call = h.before in sum_is s.args.expiry s.args.p.hard_deadline_s s.ranges.expiry call.after.result call.after.ensures h.in-At.hard h.in-At.is in h)) in h).1) ((let h : (count.ones b.args.s.filled_slots) ≡ ones b.args.s.filled_slots = ones-same _ (let x : b.args.s.filled_slots < 2 ^ 32 = search rules in x) in h)))
+    (c.partial.ensures a.expiry (rw to_z-of_z (let h : (fits ((h.args.expiry +ℤ pos h.args.p.hard_deadline_s)) ≡ true) × (h.in-Some.hard ≡ (h.args.expiry +ℤ pos h.args.p.hard_deadline_s)) = at_is h.in-Some.hard ((h.args.expiry +ℤ pos h.args.p.hard_deadline_s)) ((let h : Some h.in-Some.hard ≡ time_of ((h.args.expiry +ℤ pos h.args.p.hard_deadline_s)) = let s = h.before.before.before in let call = h.before in sum_is s.args.expiry s.args.p.hard_deadline_s s.ranges.expiry call.after.result call.after.ensures h.in-Some.hard h.in-Some.is in h)) in h).1) ((let h : (count.ones b.args.s.filled_slots) ≡ ones b.args.s.filled_slots = ones-same _ (let x : b.args.s.filled_slots < 2 ^ 32 = search rules in x) in h)))

@@ -6,7 +6,7 @@ use Rattle.core_parts.proofs.state.places_ok.Goals as goal
 
 pub loop-i-init : goal.loop-i-init
 unfolding all_places
-loop-i-init c = (omega arith, refl)
+loop-i-init c = refl
 
 pub returns-then-not-place_ok : goal.returns-then-not-place_ok
 returns-then-not-place_ok c =
@@ -16,4 +16,4 @@ returns-then-not-place_ok c =
 pub loop-i-preserved : goal.loop-i-preserved
 loop-i-preserved c =
     let a = c.args in
-    (omega arith, all_more (link_place a.times a.prices a.len) c.loop-i.i c.loop-i.invariant.1 (passed c.place_ok.ensures c.if-not-place_ok.false-raw))
+    all_more (link_place a.times a.prices a.len) c.loop-i.i c.loop-i.invariant (passed c.place_ok.ensures c.if-not-place_ok.false-raw)

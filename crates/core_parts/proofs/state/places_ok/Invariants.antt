@@ -1,11 +1,7 @@
-use Prim.Native.Nat.{◌-◌, ◌≤◌}
 use mathlib.Core.Path.{◌≡◌}
 use mathlib.Core.Bool.{true}
 use Rattle.core_parts.specs.States.{link_place, all_places}
 use Rattle.core_parts.proofs.state.places_ok.Given as goal
 
 abbrev pub invariant-loop-i : goal.invariant-loop-i
-invariant-loop-i l = (l.i ≤ 5) × (all_places (link_place l.times l.prices l.len) l.i ≡ true)
-
-abbrev pub decreases-loop-i : goal.decreases-loop-i
-decreases-loop-i l = 5 - l.i
+invariant-loop-i l = all_places (link_place l.times l.prices l.len) l.i ≡ true

@@ -1,4 +1,4 @@
-use Prim.Native.Nat.{ℕ, ◌+◌, ◌*◌, ◌≤◌, ◌^◌}
+use Prim.Native.Nat.{ℕ, ◌*◌, ◌≤◌, ◌^◌}
 use mathlib.Core.Path.{◌≡◌, refl, ap, ◌∙◌}
 use mathlib.Core.Bool.{true, false}
 use native.Mathlib.Omega.{arith}
@@ -134,7 +134,7 @@ returns-then-expo-ltminus6 c =
     let f = k.ranges.expo in
     let s = down_fits (e4 k) (l4 k) (h4 k) (b4 k) in
     let g = simp to_z-of_z at c.power.ensures.0 in
-    c.ratio.ensures ∙ good (e4 k) (a.sum_high * 2 ^ 64 + a.sum_low) a.count (l4 k) (h4 k) k.if-count-eq0.false 1 c.power.result
+    c.ratio.ensures ∙ good (e4 k) (a.sum) a.count (l4 k) (h4 k) k.if-count-eq0.false 1 c.power.result
     (rw (up_none (e4 k) (l4 k) (h4 k) (b4 k)))
     (g ∙ ap (λ (n : ℕ). 10 ^ n) (down_is (e4 k) (l4 k) (h4 k) (b4 k)))
 
@@ -145,6 +145,6 @@ returns c =
     let f = k.ranges.expo in
     let s = up_fits (e5 k) (l5 k) (h5 k) (b5 k) in
     let g = simp to_z-of_z at c.power-2.ensures.0 in
-    c.ratio-2.ensures ∙ good (e5 k) (a.sum_high * 2 ^ 64 + a.sum_low) a.count (l5 k) (h5 k) k.if-count-eq0.false c.power-2.result 1
+    c.ratio-2.ensures ∙ good (e5 k) (a.sum) a.count (l5 k) (h5 k) k.if-count-eq0.false c.power-2.result 1
     (g ∙ ap (λ (n : ℕ). 10 ^ n) (up_is (e5 k) (l5 k) (h5 k) (b5 k)))
     (rw (down_none (e5 k) (l5 k) (h5 k) (b5 k)))

@@ -1,7 +1,7 @@
+use Rattle.std.specs.Prelude.{Option, Some}
 use Prim.Native.Nat.{ℕ, ◌+◌}
 use mathlib.Core.Path.{◌≡◌, sym, ◌∙◌}
 use mathlib.Core.Bool.{true, ◌||◌}
-use mathlib.Core.Option.{Option, some}
 use borrow.Author.Tests.{not-true, not-false}
 use borrow.Author.Rules.{rules}
 use lib.ListN.{length}
@@ -11,11 +11,9 @@ use Rattle.rules.specs.Log.{is_some, maybe}
 use Rattle.rules.specs.Terms.{Terms}
 use Rattle.rules.specs.Taking.{slot_for, sum_fits, usable, print_answer, place}
 use Rattle.rules.specs.State.{candidates_of, parts_of}
-use Rattle.numbers.specs.Wides.{wide_of}
 use Rattle.core_terms.specs.Params.{terms_of}
 use Rattle.core_prices.specs.Prints.{print_of}
 use Rattle.core_parts.specs.States.{stored_of}
-use Rattle.core_uses.specs.Uses.{index_of}
 use Rattle.core_take.specs.Placing.{link_use, total_after}
 use Rattle.core_take.proofs.Slots.{fills}
 use Rattle.core_take.proofs.Links.{links_fit}
@@ -34,7 +32,7 @@ prices_length s e = e
 
 -- what the sum is, on the slot that was found
 sum_is : (t : Terms) (E : ℤ) (s : SettlementParts) (x : Print) (n : ℕ) (i : Option ℕ)
-    → i ≡ slot_for t E (candidates_of (stored_of s)) (print_of x) → some n ≡ total_after (stored_of s).sum i x.price
+    → i ≡ slot_for t E (candidates_of (stored_of s)) (print_of x) → Some n ≡ total_after (stored_of s).sum i x.price
     → (sum_fits t E (candidates_of (stored_of s)) (print_of x) ≡ true)
     × (n ≡ maybe (stored_of s).sum (λ i. (stored_of s).sum + (print_of x).price) (slot_for t E (candidates_of (stored_of s)) (print_of x)))
 unfolding print_of candidates_of
@@ -71,7 +69,7 @@ returns-in_default-sum_after c =
     let k = candidates_of q in
     let x = print_of c.args.x in
     let f-expiry = c.ranges.expiry in
-    let slot = slot_told t E k x (index_of c.in-Ok.slot) (simp to_z-of_z at c.in-Ok.ensures) in
+    let slot = slot_told t E k x c.in-Ok.slot (simp to_z-of_z at c.in-Ok.ensures) in
     let e = sum_over t E k x (rw slot.1 at c.in_default-sum_after.ensures) in
     unchanged (print_answer t E k x) 0 (parts_of (place t E k x c.args.now)) q (no_sum t E k x e)
 
@@ -83,10 +81,10 @@ returns-then-not-is_used c =
     let k = candidates_of q in
     let x = print_of c.args.x in
     let f-expiry = c.ranges.expiry in
-    let slot = slot_told t E k x (index_of c.in-Ok.slot) (simp to_z-of_z at c.in-Ok.ensures) in
+    let slot = slot_told t E k x c.in-Ok.slot (simp to_z-of_z at c.in-Ok.ensures) in
     let fall = fallback_told t E k x c.in-Ok-try_fallback.fallback (simp to_z-of_z at c.in-Ok-try_fallback.ensures) in
-    let sum = sum_is t E c.args.s c.args.x (wide_of c.in-Of.sum) (index_of c.in-Ok.slot) slot.1 c.in-Of.ensures in
-    let link : index_of c.try_next_print-next_print.result ≡ link_use t E k x = simp to_z-of_z at c.try_next_print-next_print.ensures in
+    let sum = sum_is t E c.args.s c.args.x c.in-Some.sum c.in-Ok.slot slot.1 c.in-Some.ensures in
+    let link : c.try_next_print-next_print.result ≡ link_use t E k x = simp to_z-of_z at c.try_next_print-next_print.ensures in
     let used : c.is_used.result ≡ usable t E k x = c.is_used.ensures ∙ (λ i. is_some (slot.1 i) || is_some (link i) || fall.1 i) ∙ use_is t E k x in
     let e = sym used ∙ not-true c.is_used.result c.if-not-is_used.true-raw in
     unchanged (print_answer t E k x) 14 (parts_of (place t E k x c.args.now)) q (no_use t E k x slot.0 fall.0 sum.0 e)
@@ -99,7 +97,7 @@ placed-requires-clause-slot_value c =
     let k = candidates_of (stored_of c.args.s) in
     let x = print_of c.args.x in
     let f-expiry = c.ranges.expiry in
-    let slot = slot_told t E k x (index_of c.in-Ok.slot) (simp to_z-of_z at c.in-Ok.ensures) in
+    let slot = slot_told t E k x c.in-Ok.slot (simp to_z-of_z at c.in-Ok.ensures) in
     rw slot.1 (fills t E k x c.requires.0)
 
 pub placed-requires-clause-next_print_value : goal.placed-requires-clause-next_print_value
@@ -109,7 +107,7 @@ placed-requires-clause-next_print_value c =
     let q = stored_of c.args.s in
     let x = print_of c.args.x in
     let f-expiry = c.ranges.expiry in
-    let link : index_of c.try_next_print-next_print.result ≡ link_use t E (candidates_of q) x = simp to_z-of_z at c.try_next_print-next_print.ensures in
+    let link : c.try_next_print-next_print.result ≡ link_use t E (candidates_of q) x = simp to_z-of_z at c.try_next_print-next_print.ensures in
     rw link (links_fit t E q x c.requires.0)
 
 pub returns : goal.returns
@@ -121,10 +119,10 @@ returns c =
     let x = print_of c.args.x in
     let f-expiry = c.ranges.expiry in
     let f-now = c.ranges.now in
-    let slot = slot_told t E k x (index_of c.in-Ok.slot) (simp to_z-of_z at c.in-Ok.ensures) in
+    let slot = slot_told t E k x c.in-Ok.slot (simp to_z-of_z at c.in-Ok.ensures) in
     let fall = fallback_told t E k x c.in-Ok-try_fallback.fallback (simp to_z-of_z at c.in-Ok-try_fallback.ensures) in
-    let sum = sum_is t E c.args.s c.args.x (wide_of c.in-Of.sum) (index_of c.in-Ok.slot) slot.1 c.in-Of.ensures in
-    let link : index_of c.try_next_print-next_print.result ≡ link_use t E k x = simp to_z-of_z at c.try_next_print-next_print.ensures in
+    let sum = sum_is t E c.args.s c.args.x c.in-Some.sum c.in-Ok.slot slot.1 c.in-Some.ensures in
+    let link : c.try_next_print-next_print.result ≡ link_use t E k x = simp to_z-of_z at c.try_next_print-next_print.ensures in
     let used : c.is_used.result ≡ usable t E k x = c.is_used.ensures ∙ (λ i. is_some (slot.1 i) || is_some (link i) || fall.1 i) ∙ use_is t E k x in
     let e = sym used ∙ not-false c.is_used.result c.if-not-is_used.false-raw in
     stored t E q x c.args.now c.requires.0 c.requires.1 (times_length c.args.s (search rules)) (prices_length c.args.s (search rules)) _ _ _ _ _

@@ -1,29 +1,28 @@
-use mathlib.Core.Path.{refl}
+use mathlib.Core.Path.{refl, sym}
 use mir.Syntax.{w64}
 use mir.Val.{SFits}
 use mir.Facts.{to_z-of_z}
 use borrow.Author.Rules.{rules}
 use Rattle.rules.specs.State.{add_print_call, add_print_state}
+use Rattle.core_terms.specs.Params.{terms_of}
+use Rattle.core_parts.specs.States.{stored_of}
+use Rattle.core_parts.proofs.Checks.{checks, not_checked}
 use Rattle.core_parts.proofs.Places.{passed, failed}
+use Rattle.core_take.proofs.Placing.{unchanged}
 use Rattle.core_take.proofs.take.add_print.Goals as goal
+
+pub returns-in-Err : goal.returns-in-Err
+unfolding add_print_call add_print_state
+returns-in-Err c = unchanged _ _ _ _ (sym (not_checked (terms_of c.args.params) (stored_of c.args.state) _ _ c.in-Err.ensures))
 
 pub returns-then-not-in_range : goal.returns-then-not-in_range
 unfolding add_print_call add_print_state
-returns-then-not-in_range c = simp (failed c.in_range.ensures c.if-not-in_range.true-raw) (refl, refl)
+returns-then-not-in_range c =
+    let (t, s) = checks (terms_of c.args.params) (stored_of c.args.state) c.in_default.ensures in
+    simp (t, s, failed c.in_range.ensures c.if-not-in_range.true-raw) (refl, refl)
 
-pub returns-then-not-in_range-2 : goal.returns-then-not-in_range-2
-unfolding add_print_call add_print_state
-returns-then-not-in_range-2 c = simp (passed c.in_range.ensures c.if-not-in_range.false-raw, failed c.in_range-2.ensures c.if-not-in_range-2.true-raw) (refl, refl)
-
-pub returns-then-not-in_range-3 : goal.returns-then-not-in_range-3
-unfolding add_print_call add_print_state
-returns-then-not-in_range-3 c =
-    simp (
-      passed c.in_range.ensures c.if-not-in_range.false-raw,
-      passed c.in_range-2.ensures c.if-not-in_range-2.false-raw,
-      failed c.in_range-3.ensures c.if-not-in_range-3.true-raw,
-    )
-    (refl, refl)
+pub add-requires : goal.add-requires
+add-requires c = checks (terms_of c.args.params) (stored_of c.args.state) c.in_default.ensures
 
 pub returns : goal.returns
 unfolding add_print_call add_print_state
@@ -31,9 +30,5 @@ returns c =
     let f = c.ranges.now in
     let g : SFits w64 c.get.result = search rules in
     let q = simp to_z-of_z at c.add.ensures in
-    simp (
-      passed c.in_range.ensures c.if-not-in_range.false-raw,
-      passed c.in_range-2.ensures c.if-not-in_range-2.false-raw,
-      passed c.in_range-3.ensures c.if-not-in_range-3.false-raw,
-    )
-    (rw c.get.ensures at q)
+    let (t, s) = checks (terms_of c.args.params) (stored_of c.args.state) c.in_default.ensures in
+    simp (t, s, passed c.in_range.ensures c.if-not-in_range.false-raw) (rw c.get.ensures at q)

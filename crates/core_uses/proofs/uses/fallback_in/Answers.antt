@@ -1,3 +1,4 @@
+use Rattle.std.specs.Prelude.{Some}
 use mathlib.Core.Path.{◌≡◌}
 use mathlib.Core.Bool.{true}
 use lib.IntN.{pos, ◌-ℤ◌}
@@ -7,27 +8,26 @@ use mir.Facts.{to_z-of_z}
 use Rattle.rules.specs.Bytes.{fits}
 use Rattle.rules.proofs.Integers.{lt_true, lt_false, le_true, le_false}
 use Rattle.numbers.specs.Times.{time_of}
-use Rattle.numbers.specs.declared.time.Time.TheVariants as T
 use Rattle.core_uses.specs.Uses.{fallback_in}
 use Rattle.numbers.proofs.Times.{at_is, at_fits, over_is}
 use Rattle.core_uses.proofs.uses.fallback_in.Goals as goal
-use Rattle.core_uses.proofs.uses.fallback_in.Goals.{In-At, Start}
+use Rattle.core_uses.proofs.uses.fallback_in.Goals.{In-Some, Start}
 
-abbrev begin : In-At → Start
+abbrev begin : In-Some → Start
 begin c = c.before.before
 
 -- the lookback's start
-told : (c : In-At) → T.At c.in-At.earliest ≡ time_of ((begin c).args.expiry -ℤ pos (begin c).args.lookback)
+told : (c : In-Some) → Some c.in-Some.earliest ≡ time_of ((begin c).args.expiry -ℤ pos (begin c).args.lookback)
 told c =
     let f-expiry = (begin c).ranges.expiry in
-    simp to_z-of_z at (c.in-At.ensures)
+    simp to_z-of_z at (c.in-Some.ensures)
 
-earliest_is : (c : In-At)
-    → (fits ((begin c).args.expiry -ℤ pos (begin c).args.lookback) ≡ true) × (c.in-At.earliest ≡ (begin c).args.expiry -ℤ pos (begin c).args.lookback)
-earliest_is c = at_is c.in-At.earliest ((begin c).args.expiry -ℤ pos (begin c).args.lookback) (told c)
+earliest_is : (c : In-Some)
+    → (fits ((begin c).args.expiry -ℤ pos (begin c).args.lookback) ≡ true) × (c.in-Some.earliest ≡ (begin c).args.expiry -ℤ pos (begin c).args.lookback)
+earliest_is c = at_is c.in-Some.earliest ((begin c).args.expiry -ℤ pos (begin c).args.lookback) (told c)
 
-earliest_fits : (c : In-At) → SFits w64 c.in-At.earliest
-earliest_fits c = at_fits c.in-At.earliest ((begin c).args.expiry -ℤ pos (begin c).args.lookback) (told c)
+earliest_fits : (c : In-Some) → SFits w64 c.in-Some.earliest
+earliest_fits c = at_fits c.in-Some.earliest ((begin c).args.expiry -ℤ pos (begin c).args.lookback) (told c)
 
 pub returns-in_default : goal.returns-in_default
 unfolding fallback_in

@@ -1,21 +1,8 @@
+use mathlib.Core.Path.{refl}
 use Rattle.rules.specs.Series.{Fix, step}
-use Rattle.answers.proofs.Commands.{answered, left}
+use Rattle.answers.proofs.Commands.{not_used}
 use Rattle.fixings.proofs.fix.fix.Goals as goal
 
-pub returns-in-Empty : goal.returns-in-Empty
+pub returns-in-Err : goal.returns-in-Err
 unfolding step
-returns-in-Empty c =
-    let a = c.args in
-    (answered a.book.now a.series c.status_at.ensures c.in-Empty.is (Fix a.now), left a.book.now a.series c.status_at.ensures c.in-Empty.is (Fix a.now))
-
-pub returns-in-Fixed : goal.returns-in-Fixed
-unfolding step
-returns-in-Fixed c =
-    let a = c.args in
-    (answered a.book.now a.series c.status_at.ensures c.in-Fixed.is (Fix a.now), left a.book.now a.series c.status_at.ensures c.in-Fixed.is (Fix a.now))
-
-pub returns-in-Refused : goal.returns-in-Refused
-unfolding step
-returns-in-Refused c =
-    let a = c.args in
-    (answered a.book.now a.series c.status_at.ensures c.in-Refused.is (Fix a.now), left a.book.now a.series c.status_at.ensures c.in-Refused.is (Fix a.now))
+returns-in-Err c = not_used c.args.book.now c.args.series (Fix c.args.now) refl (λ r o h a at. refl) _ c.in-Err.ensures

@@ -1,46 +1,31 @@
-use mathlib.Core.Path.{refl, sym, ◌∙◌}
+use mathlib.Core.Path.{refl, ◌∙◌}
 use native.Mathlib.Omega.{arith}
-use Rattle.journal.proofs.Given.{starts, first_of_lem, first_ends, entry_of, no_room, no_entry, ends-here, goes_on}
+use Rattle.std.proofs.lemmas.Bool.{not-true}
+use Rattle.journal.proofs.Given.{starts, first_of_lem, inside, entry_of, no_room, no_entry, goes_on}
 use Rattle.journal.proofs.feed.feed.Goals as goal
 
-pub loop-out-init : goal.loop-out-init
-loop-out-init c = (starts c.args.last c.args.part.now c.args.book.now c.args.out.now, refl, refl)
-
-pub returns-then-width-eq0 : goal.returns-then-width-eq0
-returns-then-width-eq0 c =
-    let l = c.loop-out in
-    let a = c.args in
-    let f = first_of_lem a.last a.part.now l.at c.first_width-width.ensures in
-    no_entry l.invariant.0 (sym f ∙ c.if-width-eq0.true)
+pub loop-fed-init : goal.loop-fed-init
+loop-fed-init c = (starts c.args.last c.args.part.now c.args.book.now c.args.out.now, refl, refl)
 
 pub overflow_add-end : goal.overflow_add-end
-overflow_add-end c =
-    let l = c.loop-out in
-    let a = c.args in
-    let f = first_of_lem a.last a.part.now l.at c.first_width-width.ensures in
-    let e = first_ends a.last a.part.now l.at l.invariant.0.within f in
-    omega arith
+overflow_add-end c = let e = inside c.args.last c.args.part.now c.loop-fed.fed.taken c.loop-fed.invariant.0.within c.first_width.ensures c.in-Some.is in omega arith
 
 pub slice_bounds-give-end : goal.slice_bounds-give-end
-slice_bounds-give-end c =
-    let l = c.loop-out in
-    let a = c.args in
-    let f = first_of_lem a.last a.part.now l.at c.first_width-width.ensures in
-    first_ends a.last a.part.now l.at l.invariant.0.within f
+slice_bounds-give-end c = (inside c.args.last c.args.part.now c.loop-fed.fed.taken c.loop-fed.invariant.0.within c.first_width.ensures c.in-Some.is).1
 
-pub returns-then-width-eq1 : goal.returns-then-width-eq1
-returns-then-width-eq1 c =
-    let l = c.loop-out in
-    let a = c.args in
-    let f = first_of_lem a.last a.part.now l.at c.first_width-width.ensures in
-    ends-here l.invariant.0 f (omega arith) (entry_of a.part.now l.at c.first_width-width.result) (omega arith) c.give-written.ensures c.if-width-eq1.true
+pub loop-fed-smaller : goal.loop-fed-smaller
+loop-fed-smaller c = let e = inside c.args.last c.args.part.now c.loop-fed.fed.taken c.loop-fed.invariant.0.within c.first_width.ensures c.in-Some.is in omega arith
 
-pub loop-out-preserved : goal.loop-out-preserved
-loop-out-preserved c =
-    let l = c.loop-out in
-    let a = c.args in
-    let f = first_of_lem a.last a.part.now l.at c.first_width-width.ensures in
-    (goes_on l.invariant.0 f (omega arith) (entry_of a.part.now l.at c.first_width-width.result) (omega arith) c.give-written.ensures c.if-width-eq1.false, c.give-written.auto.book ∙ l.invariant.1, c.give-written.auto.out ∙ l.invariant.2)
+pub loop-fed-preserved : goal.loop-fed-preserved
+loop-fed-preserved c =
+    let l = c.loop-fed in
+    let f = first_of_lem c.args.last c.args.part.now l.fed.taken c.first_width.ensures c.in-Some.is in
+    (goes_on l.invariant.0 (not-true l.fed.ended c.loop-fed-test.true) f (entry_of c.args.part.now l.fed.taken c.in-Some.width) (omega arith) c.give.ensures, c.give.auto.book ∙ l.invariant.1, c.give.auto.out ∙ l.invariant.2)
 
-pub returns : goal.returns
-returns c = no_room c.loop-out.invariant.0 (omega arith)
+pub returns-else-out-fed-ge-LINE_MAX : goal.returns-else-out-fed-ge-LINE_MAX
+returns-else-out-fed-ge-LINE_MAX c = no_room c.loop-fed.invariant.0 (omega arith)
+
+pub returns-in_default : goal.returns-in_default
+returns-in_default c =
+    let f = first_of_lem c.args.last c.args.part.now c.loop-fed.fed.taken c.first_width.ensures c.in_default.is in
+    no_entry c.loop-fed.invariant.0 (not-true c.loop-fed.fed.ended c.loop-fed-test.true) f

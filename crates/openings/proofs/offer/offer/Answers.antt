@@ -1,22 +1,9 @@
+use mathlib.Core.Path.{refl}
 use Rattle.rules.specs.Series.{Offer, step}
 use Rattle.core_prices.specs.Prints.{quote_of}
-use Rattle.answers.proofs.Commands.{answered, left}
+use Rattle.answers.proofs.Commands.{not_used}
 use Rattle.openings.proofs.offer.offer.Goals as goal
 
-pub returns-in-Empty : goal.returns-in-Empty
+pub returns-in-Err : goal.returns-in-Err
 unfolding step
-returns-in-Empty c =
-    let a = c.args in
-    (answered a.book.now a.series c.status_at.ensures c.in-Empty.is (Offer (quote_of a.quote) a.now), left a.book.now a.series c.status_at.ensures c.in-Empty.is (Offer (quote_of a.quote) a.now))
-
-pub returns-in-Fixed : goal.returns-in-Fixed
-unfolding step
-returns-in-Fixed c =
-    let a = c.args in
-    (answered a.book.now a.series c.status_at.ensures c.in-Fixed.is (Offer (quote_of a.quote) a.now), left a.book.now a.series c.status_at.ensures c.in-Fixed.is (Offer (quote_of a.quote) a.now))
-
-pub returns-in-Refused : goal.returns-in-Refused
-unfolding step
-returns-in-Refused c =
-    let a = c.args in
-    (answered a.book.now a.series c.status_at.ensures c.in-Refused.is (Offer (quote_of a.quote) a.now), left a.book.now a.series c.status_at.ensures c.in-Refused.is (Offer (quote_of a.quote) a.now))
+returns-in-Err c = not_used c.args.book.now c.args.series (Offer (quote_of c.args.quote) c.args.now) refl (λ r o h a at. refl) _ c.in-Err.ensures

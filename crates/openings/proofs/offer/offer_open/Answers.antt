@@ -1,6 +1,5 @@
 use Prim.Native.Nat.{ℕ}
 use mathlib.Core.Path.{◌≡◌, sym, ap, ◌∙◌}
-use native.Mathlib.Omega.{arith}
 use mir.Syntax.{w64}
 use mir.Val.{SFits}
 use mir.Facts.{to_z-of_z}
@@ -13,20 +12,14 @@ use Rattle.rules.specs.Book.{record_at, replaced, stored_answer, written}
 use Rattle.core_terms.specs.Errors.{number_of}
 use Rattle.core_prices.specs.Prints.{quote_of}
 use Rattle.core_parts.specs.States.{stored_of}
-use Rattle.core_uses.specs.Uses.{index_of}
 use Rattle.core_take.specs.Uses.{used_of}
 use Rattle.record_read.specs.Records.{opening_of}
 use Rattle.record_store.specs.Prices.{with_price}
-use Rattle.book.proofs.Looks.{allowed-book}
 use Rattle.answers.proofs.Commands.{may_look, held_found}
 use Rattle.openings.proofs.Offers.{offer_refused, offer_used}
+use Rattle.endian.proofs.TwosComplement.{word_is}
 use borrow.Author.Rules.{rules}
 use Rattle.openings.proofs.offer.offer_open.Goals as goal
-
-pub slice_bounds-read_contents-end : goal.slice_bounds-read_contents-end
-slice_bounds-read_contents-end c =
-    let a = c.args in
-    omega (arith, allowed-book a.book.now a.series (may_look a.book.now a.series c.requires))
 
 pub store_open-requires : goal.store_open-requires
 store_open-requires c = may_look c.args.book.now c.args.series c.requires
@@ -42,13 +35,13 @@ returns-in-Ok c =
     let prices = prices_in (record_at a.series book) in
     let f = c.ranges.now in
     let u = c.in-Ok.u in
-    let e = held_found book a.series c.requires c.read_contents-c.ensures in
-    let x = offer_used book a.series o (stored_of c0.state) prices q a.now (index_of u.slot) (index_of u.next_print) u.fallback
+    let e = held_found book a.series c.requires c.look.ensures c.read_contents-c.ensures in
+    let x = offer_used book a.series o (stored_of c0.state) prices q a.now u.slot u.next_print u.fallback
     (sym c.offer-added.ensures.0 ∙ ap used_of c.in-Ok.is) in (
       x.0 ∙ ap (λ (y : Result Series). stored_answer y (Offer q a.now)) e,
       c.store_open.ensures
-          ∙ ap (λ (p : Parts). replaced a.series (open_record o p (with_price prices (index_of u.slot) c.i64_to_bits-price.result)) book) (simp to_z-of_z at c.offer-added.ensures.1)
-          ∙ ap (λ (v : ℕ). replaced a.series (open_record o (offer_state o.terms o.bps o.expiry (stored_of c0.state) q a.now) (with_price prices (index_of u.slot) v)) book) ((let h : c.i64_to_bits-price.result ≡ word 64 (quote_of c.args.quote).price = let g : SFits w64 c.args.quote.price = search rules in c.i64_to_bits-price.ensures ∙ ap (word 64) (to_z-of_z g) in h))
+          ∙ ap (λ (p : Parts). replaced a.series (open_record o p (with_price prices u.slot c.cast_unsigned-price.result)) book) (simp to_z-of_z at c.offer-added.ensures.1)
+          ∙ ap (λ (v : ℕ). replaced a.series (open_record o (offer_state o.terms o.bps o.expiry (stored_of c0.state) q a.now) (with_price prices u.slot v)) book) ((let h : c.cast_unsigned-price.result ≡ word 64 (quote_of c.args.quote).price = let g : SFits w64 c.args.quote.price = search rules in c.cast_unsigned-price.ensures ∙ word_is w64 _ ∙ ap (word 64) (to_z-of_z g) in h))
           ∙ x.1 ∙ ap (λ (y : Result Series). written a.series book y (Offer q a.now)) e,
     )
 
@@ -58,8 +51,8 @@ returns-in-Err c =
     let book = a.book.now in
     let c0 = c.read_contents-c.result in
     let q = quote_of a.quote in
-    let e = held_found book a.series c.requires c.read_contents-c.ensures in
+    let e = held_found book a.series c.requires c.look.ensures c.read_contents-c.ensures in
     let x = offer_refused book a.series (opening_of c0) (stored_of c0.state) (prices_in (record_at a.series book)) q a.now (number_of c.in-Err.e) (sym c.offer-added.ensures.0 ∙ ap used_of c.in-Err.is) in (
-      ap Refused c.refusal.ensures ∙ x.0 ∙ ap (λ (y : Result Series). stored_answer y (Offer q a.now)) e,
+      ap Refused c.from.ensures ∙ x.0 ∙ ap (λ (y : Result Series). stored_answer y (Offer q a.now)) e,
       x.1 ∙ ap (λ (y : Result Series). written a.series book y (Offer q a.now)) e,
     )

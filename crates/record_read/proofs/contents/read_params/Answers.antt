@@ -1,20 +1,20 @@
 use mir.Syntax.{w8}
 use Rattle.rules.specs.Record.{opening_in}
 use Rattle.core_terms.specs.Params.{terms_of}
-use Rattle.fields.proofs.Offsets.{came}
+use Rattle.endian.proofs.TwosComplement.{came}
 use Rattle.record_read.proofs.contents.read_params.Goals as goal
 
 pub returns : goal.returns
 unfolding terms_of opening_in
 returns c =
     λ i. record {
-      window = c.u32_at.ensures i;
-      slot = c.u32_at-2.ensures i;
-      tolerance = c.u16_at.ensures i;
-      minimum = c.u16_at-2.ensures i;
-      k = c.u8_at.ensures i;
-      delay = c.u32_at-3.ensures i;
-      lookback = c.u32_at-4.ensures i;
-      hard = c.u32_at-5.ensures i;
-      exponent = came w8 c.i8_at.type_inv c.i8_at.ensures i;
+      window = c.read.ensures i;
+      slot = c.read-2.ensures i;
+      tolerance = c.read-3.ensures i;
+      minimum = c.read-4.ensures i;
+      k = c.read-5.ensures i;
+      delay = c.read-6.ensures i;
+      lookback = c.read-7.ensures i;
+      hard = c.read-8.ensures i;
+      exponent = came w8 c.read-9.type_inv c.read-9.ensures i;
     }

@@ -32,9 +32,9 @@ last bs seen i w s e h =
 pub loop-i-preserved : goal.loop-i-preserved
 loop-i-preserved c =
     let l = c.loop-i in
-    (omega arith, next c.args.bytes.now l.seen l.i c.u64_at-seen.result _ c.u64_at-seen.ensures l.invariant.1)
+    next c.args.bytes.now l.seen l.i c.read-seen.result _ c.read-seen.ensures l.invariant
 
 pub returns : goal.returns
 returns c =
     let l = c.loop-i in
-    last c.args.bytes.now l.seen l.i c.u64_at.result (omega arith) c.u64_at.ensures l.invariant.1
+    last c.args.bytes.now l.seen l.i c.read.result (omega arith) c.read.ensures l.invariant

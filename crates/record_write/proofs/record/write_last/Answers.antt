@@ -10,17 +10,18 @@ use Rattle.record_write.proofs.record.write_last.Goals as goal
 pub returns : goal.returns
 returns c =
     let a = c.args in
-    let x = a.state in
+    let s = a.state in
+    let u = a.outcome in
     let (f1, f2, f3, f4, f5) = (let h : SFits w64 c.args.state.fallback_time × SFits w64 c.args.state.window_changed × SFits w64 c.args.state.next_print_changed × SFits w64 c.args.state.fallback_changed × SFits w64 c.args.outcome.fixing_time = search rules in h) in
     rw (
-      c.put_u64-2.ensures,
-      simp to_z-of_z at c.put_i64-5.ensures,
-      simp to_z-of_z at c.put_i64-4.ensures,
-      simp to_z-of_z at c.put_i64-3.ensures,
-      simp to_z-of_z at c.put_i64-2.ensures,
-      c.put_u64.ensures,
-      simp to_z-of_z at c.put_i64.ensures,
+      c.put-7.ensures,
+      simp to_z-of_z at c.put-6.ensures,
+      simp to_z-of_z at c.put-5.ensures,
+      simp to_z-of_z at c.put-4.ensures,
+      simp to_z-of_z at c.put-3.ensures,
+      c.put-2.ensures,
+      simp to_z-of_z at c.put.ensures,
     )
     (numbers_stored
-    ((8, word 64 x.fallback_time) ∷ (8, x.fallback_price) ∷ (8, word 64 x.window_changed) ∷ (8, word 64 x.next_print_changed) ∷ (8, word 64 x.fallback_changed) ∷ (8, word 64 a.outcome.fixing_time) ∷ (8, a.outcome.price) ∷ [])
-    a.slice.now 144)
+    ((8, word 64 s.fallback_time) ∷ (8, s.fallback_price) ∷ (8, word 64 s.window_changed) ∷ (8, word 64 s.next_print_changed) ∷ (8, word 64 s.fallback_changed) ∷ (8, word 64 u.fixing_time) ∷ (8, u.price) ∷ [])
+    a.part.now 144)

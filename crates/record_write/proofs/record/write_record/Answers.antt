@@ -1,10 +1,12 @@
-use Prim.Native.Nat.{◌^◌, ◌<◌}
-use mathlib.Core.Path.{◌≡◌, refl, sym, ap, ◌∙◌}
+use Prim.Native.Nat.{ℕ}
+use mathlib.Core.Path.{◌≡◌, sym, ap, ◌∙◌}
 use mathlib.Core.List.{◌++◌}
-use lib.ListN.{length}
+use lib.ListN.{length, get_or}
+use mir.Syntax.{w8}
+use mir.Val.{Fits}
 use mir.Facts.{to_z-of_z}
 use Rattle.rules.specs.Bytes.{Bytes, concat}
-use Rattle.rules.specs.Record.{fields}
+use Rattle.rules.specs.Record.{record_size, fields}
 use Rattle.rules.proofs.Bytes.{are_bytes_lem}
 use Rattle.rules.proofs.SlotPrices.{prices-back}
 use Rattle.core_terms.specs.Params.{terms_of}
@@ -18,20 +20,21 @@ pub returns : goal.returns
 unfolding stored_of
 returns c =
     let a = c.args in
-    let x = a.state in
     let u = a.outcome in
-    let (low, times, prices) = (let h : (c.args.state.sample_sum_low < 2 ^ 64) × (length c.args.state.next_times ≡ 5) × (length c.args.state.next_prices ≡ 5) = search rules in h) in
-    let f6 = c.ranges.expiry in
-    let front = concat (fields u.tag (opening_with a.params a.max_conf_bps a.expiry) (stored_of x) u.samples u.method u.fixing_time u.price) in
-    let kept = prices-back a.part.now c.if-part-ne-RECORD_SIZE.false (are_bytes_lem a.part.now c.slice_known-1.given) in
+    let f = c.ranges.expiry in
+    let e = c.in-Some.ensures.cases in
+    let (long, times, prices) = (let h : (length c.args.part.now ≡ record_size) × (length c.args.state.next_times ≡ 5) × (length c.args.state.next_prices ≡ 5) = search rules in h) in
+    let front = concat (fields u.tag (opening_with a.params a.max_conf_bps a.expiry) (stored_of a.state) u.samples u.method u.fixing_time u.price) in
+    let kept = prices-back a.part.now long (are_bytes_lem a.part.now ((let h : (i : ℕ) → Fits w8 (get_or c.args.part.now i 0) = search rules in h))) in
     rw (
-      over_whole a.part.now _ c.if-part-ne-RECORD_SIZE.false,
+      over_whole a.part.now _ long,
       c.write_last.ensures,
-      c.write_prices.ensures,
-      c.write_times.ensures,
+      c.write_links-2.ensures,
+      c.write_links.ensures,
       simp to_z-of_z at c.write_sum.ensures,
       c.write_seconds.ensures,
       c.write_head.ensures,
+      e.same,
     )
-    (record-stored u.tag a.max_conf_bps x.sample_sum_low x.sample_sum_high u.samples u.method u.price (terms_of a.params) a.expiry u.fixing_time (stored_of x)
-    a.part.now c.if-part-ne-RECORD_SIZE.false refl low times prices ∙ ap (λ (r : Bytes). front ++ r) (sym kept))
+    (record-stored u.tag a.max_conf_bps u.samples u.method u.price (terms_of a.params) a.expiry u.fixing_time (stored_of a.state) a.part.now long times prices
+    ∙ ap (λ (r : Bytes). front ++ r) (sym kept))

@@ -7,10 +7,5 @@ use Rattle.record_write.proofs.record.write_sum.Goals as goal
 pub returns : goal.returns
 returns c =
     let a = c.args in
-    let fe = c.ranges.expiry in
-    rw (
-      c.put_u64-2.ensures,
-      c.put_u64.ensures,
-      simp to_z-of_z at c.put_i64.ensures,
-    )
-    (numbers_stored ((8, word 64 a.expiry) ∷ (8, a.low) ∷ (8, a.high) ∷ []) a.slice.now 40)
+    let f = c.ranges.expiry in
+    rw (c.put-2.ensures, simp to_z-of_z at c.put.ensures) (numbers_stored ((8, word 64 a.expiry) ∷ (16, a.sum) ∷ []) a.part.now 40)

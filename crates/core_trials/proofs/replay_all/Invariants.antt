@@ -1,6 +1,0 @@
--- `core_trials::replay_all` ends. The measure is the number of records that are left.
-use Rattle.std.proofs.Common.{◌-◌}
-use Rattle.core_trials.proofs.replay_all.Given as goal
-
-abbrev pub decreases-loop-i : goal.decreases-loop-i
-decreases-loop-i g l = l.n - l.i
