@@ -72,7 +72,7 @@ fn commands<R: Read>(
     for i in 1..=n {
         let place = Place {
             journal,
-            command: i,
+            command: Some(i),
         };
         command(reader, book, place, t)?;
     }

@@ -6,12 +6,12 @@ use std::io::Write;
 // The kinds of answers that are no refusals, by their codes from 255 down.
 const KINDS: [&str; 6] = ["opened", "used", "wait", "settle", "void", "done"];
 
-// A journal and a command of it, by their numbers from 1. The command 0 stands for the book that
-// the journal leaves.
+// A journal and a command of it, by their numbers from 1. Without a command it is the book that the
+// journal leaves, printed as command 0.
 #[derive(Clone, Copy)]
 pub(crate) struct Place {
     pub(crate) journal: u32,
-    pub(crate) command: u16,
+    pub(crate) command: Option<u16>,
 }
 
 #[derive(Drop)]
@@ -46,13 +46,14 @@ impl Tally {
         self.different_books = self.different_books.saturating_add(1);
         self.first = self.first.or(Some(Place {
             journal,
-            command: 0,
+            command: None,
         }));
     }
 
     // What differs stands first: of what a run prints, a failing check shows the beginning.
     pub(crate) fn print<W: Write>(&self, out: &mut W, journals: u32) -> io::Result<()> {
         if let Some(Place { journal, command }) = self.first {
+            let command = command.unwrap_or(0);
             writeln!(
                 out,
                 "the first difference is in journal {journal} command {command}"

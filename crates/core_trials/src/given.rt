@@ -1,4 +1,6 @@
 // The terms and the states of a record, by the offsets that trials/README.md lists.
+ghost use Rattle.std.specs.Prelude.{◌≤◌};
+
 use endian::LittleEndian;
 use metalbook_core::error::CoreError;
 use metalbook_core::settlement::params::OracleParams;
@@ -19,12 +21,18 @@ pub(crate) fn terms(b: &[u8]) -> Result<OracleParams, CoreError> {
     )
 }
 
-fn times(b: &[u8]) -> [i64; 5] {
-    [20, 28, 36, 44, 52].map(|at| i64::read(b, at))
-}
-
-fn prices(b: &[u8]) -> [u64; 5] {
-    [60, 68, 76, 84, 92].map(|at| u64::read(b, at))
+// The five numbers that stand side by side from an offset on. Not by `map`, which asks that five fit
+// into memory: of any T that is not known.
+fn links<T: LittleEndian<8>>(b: &[u8], at: usize) -> [T; 5]
+    requires { at ≤ 60 }
+{
+    [
+        T::read(b, at),
+        T::read(b, at + 8),
+        T::read(b, at + 16),
+        T::read(b, at + 24),
+        T::read(b, at + 32),
+    ]
 }
 
 // The state that b starts with.
@@ -32,8 +40,8 @@ pub(crate) fn parts(b: &[u8]) -> SettlementParts {
     SettlementParts {
         sample_sum: u128::read(b, 0),
         filled_slots: u32::read(b, 16),
-        next_times: times(b),
-        next_prices: prices(b),
+        next_times: links(b, 20),
+        next_prices: links(b, 60),
         next_len: u8::read(b, 100),
         fallback_time: i64::read(b, 101),
         fallback_price: u64::read(b, 109),

@@ -16,13 +16,11 @@ use metalbook_core::units::UnixTimestamp;
 // ---- mean and acceptance
 
 pub(crate) fn mean(b: &[u8; 30]) -> bool {
-    let code = u8::read(b, 21);
-    let atoms = u64::read(b, 22);
-    let answer = to_atoms(u128::read(b, 0), u32::read(b, 16), i8::read(b, 20));
-    match answer {
-        Ok(price) => (code == 255) & (atoms == price.get()),
-        Err(e) => (code == e.number()) & (atoms == 0),
-    }
+    let answer = match to_atoms(u128::read(b, 0), u32::read(b, 16), i8::read(b, 20)) {
+        Ok(price) => (255, price.get()),
+        Err(e) => (e.number(), 0),
+    };
+    (u8::read(b, 21), u64::read(b, 22)) == answer
 }
 
 fn is_print(p: Print, price: u64, publish: i64, prev: i64) -> bool {
@@ -57,10 +55,7 @@ pub(crate) fn accept(b: &[u8; 64]) -> bool {
 
 // A refusal's number, or 255.
 fn code<T: Drop>(r: Result<T, CoreError>) -> u8 {
-    match r {
-        Ok(_) => 255,
-        Err(e) => e.number(),
-    }
+    r.err().map_or(255, |e| e.number())
 }
 
 pub(crate) fn restore(b: &[u8; 309]) -> bool {
@@ -75,26 +70,27 @@ pub(crate) fn restore(b: &[u8; 309]) -> bool {
 fn state(b: &[u8]) -> Option<(OracleParams, SettlementState)>
     requires { 26 ≤ length b.now }
 {
-    let Ok(p) = terms(b) else {
-        return None;
-    };
+    let p = terms(b).ok()?;
     let r = SettlementState::restore(p, parts(&b[26..]));
     r.result.is_ok().then_some((p, r.state))
 }
 
 // ---- a print taken
 
-// Behind the number of a refusal there are three zeros.
+// Whether b is the answer. Behind the number of a refusal there are three zeros.
 fn is_answered(b: &[u8], r: Result<PrintUse, CoreError>) -> bool {
-    match r {
+    let answer = match r {
         Ok(u) => {
-            (u8::read(b, 207) == 255)
-                & (u8::read(b, 208) == u.slot.unwrap_or(255))
-                & (u8::read(b, 209) == u.next_print.unwrap_or(255))
-                & (u8::read(b, 210) == u.fallback as u8)
+            [
+                255,
+                u.slot.unwrap_or(255),
+                u.next_print.unwrap_or(255),
+                u.fallback as u8,
+            ]
         }
-        Err(e) => u32::read(b, 207) == e.number() as u32,
-    }
+        Err(e) => [e.number(), 0, 0, 0],
+    };
+    b == answer.as_slice()
 }
 
 pub(crate) fn add_print(b: &[u8; 352]) -> bool {
@@ -110,7 +106,7 @@ pub(crate) fn add_print(b: &[u8; 352]) -> bool {
         x,
         i64::read(b, 199),
     );
-    is_answered(b, r.result) & (r.state.parts() == parts(&b[211..]))
+    is_answered(&b[207..211], r.result) & (r.state.parts() == parts(&b[211..]))
 }
 
 // ---- the decision
@@ -203,10 +199,10 @@ pub(crate) fn print(b: &[u8; 25]) -> bool {
 }
 
 pub(crate) fn method(b: &[u8; 3]) -> bool {
-    let code = u8::read(b, 1);
-    let number = u8::read(b, 2);
-    match SettleMethod::try_from(u8::read(b, 0)) {
-        Ok(m) => (code == 255) & (number == m.number()),
-        Err(e) => (code == e.number()) & (number == 0),
-    }
+    let [value, code, number] = *b;
+    let answer = match SettleMethod::try_from(value) {
+        Ok(m) => (255, m.number()),
+        Err(e) => (e.number(), 0),
+    };
+    (code, number) == answer
 }

@@ -82,10 +82,7 @@ pub extern "C" fn lanternfold_accept_print(
 fn place(i: Option<u8>) -> u64
     ensures { result ≡ place_code i }
 {
-    match i {
-        Some(n) => n as u64,
-        None => 255,
-    }
+    i.unwrap_or(255) as u64
 }
 
 // A time in two's complement.

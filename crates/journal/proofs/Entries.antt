@@ -1,5 +1,6 @@
 -- The entries of a part: its first width, and where it goes on.
 use Rattle.std.specs.Prelude.{if◌then◌else◌, Option, Some, None}
+use Rattle.std.specs.Bool.{then_some}
 use Prim.Native.Nat.{ℕ, zero, suc, ◌+◌, ◌*◌, ◌≤◌, ◌<◌}
 use mathlib.Core.Path.{◌≡◌, refl, sym, ap, ◌∙◌}
 use mathlib.Core.Bool.{Bool, true, false}
@@ -8,7 +9,7 @@ use native.Mathlib.Omega.{arith}
 use lib.Dec.{leb, eqb}
 use lib.ListN.{length, get_or, take, drop, length-append, length-drop}
 use lib.Seq.{length-take-le, take-append-le, drop-append-le, drop-drop}
-use borrow.Author.Tests.{leb-true, leb-false, le-leb, eqb-true, eqb-false, ne_eqb}
+use borrow.Author.Tests.{leb-true, leb-false, le-leb, lt-leb, eqb-true, eqb-false, ne_eqb}
 use Rattle.rules.specs.Bytes.{Bytes, concat}
 use Rattle.rules.specs.Entries.{width}
 use Rattle.rules.proofs.Bools.{not_both}
@@ -28,6 +29,17 @@ pub first_some : (last : Bool) (j : Bytes) → 0 < length j
 unfolding first_width
 first_some last [] h = absurd (omega arith)
 first_some last (b ∷ bs) h = refl
+
+-- the same by its length
+pub first_whole : (last : Bool) (j : Bytes) → 0 < length j → width (get_or j 0 0) ≤ length j → first_width last j ≡ Some (width (get_or j 0 0))
+first_whole last j h w = rw (first_some last j h, le-leb (width (get_or j 0 0)) (length j) w)
+
+pub first_tail : (last : Bool) (j : Bytes) → 0 < length j → length j < width (get_or j 0 0) → first_width last j ≡ then_some last (length j)
+first_tail last j h w = first_some last j h ∙ rw (lt-leb (width (get_or j 0 0)) (length j) w) (then_some_is last)
+  where
+    then_some_is : (b : Bool) → (if b then Some (length j) else None) ≡ then_some b (length j)
+    then_some_is true = refl
+    then_some_is false = refl
 
 -- it is a whole command or a short tail
 pub record First (j : Bytes) (w : ℕ) : Type 0 where

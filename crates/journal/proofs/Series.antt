@@ -1,11 +1,12 @@
--- The line of an entry's answer: its series is the second byte, 0 where there is none. Where it is written.
-use Rattle.std.specs.Prelude.{if◌then◌else◌}
-use Prim.Native.Nat.{ℕ, ◌+◌, ◌-◌, ◌≤◌, ◌<◌}
-use mathlib.Core.Path.{◌≡◌, refl, sym, ap, ◌∙◌}
-use mathlib.Core.List.{[], ◌∷◌, ◌++◌, append-nil, append_assoc}
+-- The line of an entry's answer, and where it is written.
+use Rattle.std.specs.Prelude.{if◌then◌else◌, Option, Some, None, IfSome}
+use Rattle.std.proofs.lemmas.Option.{same_Some}
+use Prim.Native.Nat.{ℕ, ◌+◌, ◌-◌, ◌≤◌}
+use mathlib.Core.Path.{◌≡◌, sym, ap, ◌∙◌}
+use mathlib.Core.List.{[], ◌++◌, append-nil, append_assoc}
 use native.Mathlib.Omega.{arith}
 use lib.Dec.{ltb}
-use lib.ListN.{length, get_or, take, drop, length-drop, drop_of_length-le}
+use lib.ListN.{length, take, drop, length-drop, drop_of_length-le}
 use lib.Seq.{sets, sets-eq, take_all, drop-drop}
 use borrow.Author.Tests.{le-ltb}
 use borrow.Rule.Slice.PartMut.{put_mid}
@@ -15,18 +16,6 @@ use Rattle.rules.specs.Book.{answer_to}
 use Rattle.rules.specs.Lines.{line}
 use Rattle.rules.specs.Journal.{line_to}
 use Rattle.lines.specs.Lines.{line_max}
-
-pub series_none : (e : Bytes) → length e < 2 → 0 ≡ unsigned_at e 1 1
-unfolding unsigned_at
-series_none [] h = refl
-series_none (a ∷ []) h = refl
-series_none (a ∷ b ∷ e) h = absurd (omega arith)
-
-pub series_some : (e : Bytes) → 2 ≤ length e → get_or e 1 0 ≡ unsigned_at e 1 1
-unfolding unsigned_at
-series_some [] h = absurd (omega arith)
-series_some (a ∷ []) h = absurd (omega arith)
-series_some (a ∷ b ∷ e) h = omega arith
 
 line_to_lem : (book e : Bytes) {s : ℕ} {a : Answer} → s ≡ unsigned_at e 1 1 → a ≡ answer_to book e → line s a ≡ line_to book e
 unfolding line_to
@@ -53,11 +42,13 @@ module _ (out : Bytes) (at : ℕ) where
       (ap (take at out ++◌) (append-nil (text ++ drop (at + length text) out)) ∙ sym (append_assoc (take at out) text (drop (at + length text) out)))
 
   -- an entry's line, by `write_line`
-  pub line_at : (book e : Bytes) {s r : ℕ} {a : Answer} {m : Bytes} → at + line_max ≤ length out → s ≡ unsigned_at e 1 1 → a ≡ answer_to book e
-      → ((r ≡ (if ltb (length rest) line_max then 0 else length (line s a))) × (m ≡ (if ltb (length rest) line_max then rest else sets rest 0 (line s a)))) × (r ≤ line_max)
+  pub line_at : (book e : Bytes) {s r : ℕ} {a : Answer} {o : Option ℕ} {m : Bytes} → at + line_max ≤ length out → s ≡ unsigned_at e 1 1 → a ≡ answer_to book e
+      → ((o ≡ (if ltb (length rest) line_max then None else Some (length (line s a)))) × (m ≡ (if ltb (length rest) line_max then rest else sets rest 0 (line s a)))) × IfSome o (λ n. n ≤ line_max) → o ≡ Some r
       → (at + r ≡ at + length (line_to book e)) × (put_mid at (length out - at) out m ≡ sets out at (line_to book e)) × (length (line_to book e) ≤ line_max)
-  line_at book e room p q w =
+  line_at book e {r = r} room p q w got =
       let n : line_max ≤ length rest = omega (arith, ap length rest_is, length-drop at out) in
       let w = rw (le-ltb (length rest) line_max n, line_to_lem book e p q) at w in
-      let short : length (line_to book e) ≤ line_max = omega (arith, w.0.0, w.1) in
-      (ap (at +◌) w.0.0, rw w.0.1 (put_front (line_to book e) (omega (arith, short))), short)
+      let is : r ≡ length (line_to book e) = same_Some r (length (line_to book e)) (sym got ∙ w.0.0) in
+      let most : r ≤ line_max = rw got at w.1 in
+      let short : length (line_to book e) ≤ line_max = omega (arith, is, most) in
+      (ap (at +◌) is, rw w.0.1 (put_front (line_to book e) (omega (arith, short))), short)

@@ -1,7 +1,6 @@
 // A journal, whole or in parts, given to a book.
 ghost use Rattle.std.specs.Prelude.{◌+◌, ◌≤◌, ◌≡◌, true, length};
 ghost use Rattle.std.proofs.lemmas.List.Edits.{sets};
-ghost use Rattle.rules.specs.Bytes.{unsigned_at};
 ghost use Rattle.rules.specs.Book.{book_after};
 ghost use Rattle.rules.specs.Journal.{line_to};
 ghost use Rattle.lines.specs.Lines.{line_max};
@@ -9,6 +8,7 @@ ghost use Rattle.journal.specs.Feed.{book_from, lines_from, short, given, fed_by
 
 use crate::split::first_width;
 use commands::apply::apply;
+use endian::LittleEndian;
 use lines::line::{LINE_MAX, write_line};
 
 // How many bytes of the part were taken and how many of lines written, and whether an entry of one
@@ -20,17 +20,6 @@ pub struct Fed {
     pub ended: bool,
 }
 
-// An entry's second byte, 0 for none.
-#[tactic(auto, using(crate::proofs::Series::series_none, crate::proofs::Series::series_some))]
-fn series_of(entry: &[u8]) -> u8
-    ensures { result ≡ unsigned_at entry.now 1 1 }
-{
-    let [_, series, ..] = entry else {
-        return 0;
-    };
-    *series
-}
-
 // Gives an entry to the book, and writes its line from the index at on. Answers where it ends.
 fn give(book: &mut [u8], entry: &[u8], out: &mut [u8], at: usize) -> usize
     requires { at + line_max ≤ length out.old }
@@ -40,8 +29,8 @@ fn give(book: &mut [u8], entry: &[u8], out: &mut [u8], at: usize) -> usize
         × (length (line_to book.old entry.now) ≤ line_max) }
 {
     let answer = apply(book, entry);
-    let series = series_of(entry);
-    at + write_line(&mut out[at..], series, answer)
+    let series = u8::read(entry, 1);
+    at + write_line(&mut out[at..], series, answer).unwrap()
 }
 
 // Gives the entries of a journal's part to the book, as far as there is room for their lines, which

@@ -18,6 +18,7 @@ fn width(byte: u8) -> usize
 
 // The bytes of the first entry of a journal's part, if it has one. Only the last part has a short
 // tail.
+#[tactic(auto, using(crate::proofs::Entries::first_none, crate::proofs::Entries::first_whole, crate::proofs::Entries::first_tail))]
 pub fn first_width(part: &[u8], last: bool) -> Option<usize>
     ensures { result ≡ first_width last part.now }
 {
@@ -28,5 +29,5 @@ pub fn first_width(part: &[u8], last: bool) -> Option<usize>
     if w <= part.len() {
         return Some(w);
     }
-    if last { Some(part.len()) } else { None }
+    last.then_some(part.len())
 }

@@ -11,7 +11,7 @@ use Rattle.journal.specs.declared.feed.Fed.{Fed}
 use Rattle.journal.specs.Feed.{given}
 use Rattle.journal.specs.Parts.{on, reads}
 use Rattle.journal.proofs.Given.{Feeds}
-use Rattle.journal.proofs.Fits.{fed_taken, fed_written, fed_left}
+use Rattle.journal.proofs.Fits.{fed_taken, fed_left}
 use Rattle.journal.proofs.Parts.{fed_reads}
 use Rattle.std.specs.List.{copy_within}
 use Rattle.std.proofs.lemmas.List.Edits.{take-paste}
@@ -32,14 +32,14 @@ module _ (last : Bool) (book part out : Bytes) (end : ℕ) (inside : end ≤ len
         let z : 0 + (end - f.taken) ≡ end - f.taken = omega arith in
         rw p (ap (λ (k : ℕ). take k (copy_within part f.taken end 0)) (sym z) ∙ take-paste part 0 (drop f.taken part) (end - f.taken) (omega arith) n) ∙ sym (drop-take f.taken end part taken)
 
-    pub gives : {part₁ : Bytes} → length part ≤ 65536 → 655360 ≤ length out → part₁ ≡ copy_within part f.taken end 0
-        → Holds (record { written = f.written; held = end - f.taken; ended = f.ended }) book₁ part₁ out₁ (reads last (on book) (take end part))
-        × (f.written ≤ length out) × (last ≡ false → f.ended ≡ false → end - f.taken < 46)
-    gives {part₁} p o k =
-        let room : line_max * (length (take end part) + 9) ≤ 10 * length out = omega (arith, count) in
-        let e = fed_reads last (on book) (take end part) out refl room fed in
-        rw e (
-          record { booked = refl; held = left k; lines = refl; ended = refl },
-          fed_written last (take end part) book out fed,
-          λ l n. omega (arith, count, fed_left last (take end part) book out fed l n room),
-        )
+    module _ (a_part : length part ≡ 65536) (all_lines : length out ≡ 655360) where
+      room : line_max * (length (take end part) + 9) ≤ 10 * length out
+      room = omega (arith, count)
+
+      pub short : last ≡ false → f.ended ≡ false → end - f.taken < 46
+      short l n = omega (arith, count, fed_left last (take end part) book out fed l n room)
+
+      pub holds : {part₁ : Bytes} → part₁ ≡ copy_within part f.taken end 0
+          → Holds (record { written = f.written; held = end - f.taken; ended = f.ended }) book₁ part₁ out₁ (reads last (on book) (take end part))
+      holds {part₁} p =
+          rw (fed_reads last (on book) (take end part) out refl room fed) (record { booked = refl; held = left p; lines = refl; ended = refl })

@@ -14,6 +14,7 @@ ghost use Rattle.sheet.specs.Holds.{Holds, GoesOn};
 
 use book::look::BOOK_SIZE;
 use journal::feed::feed;
+use std::fmt;
 use std::io::{Read, Write};
 
 // The most that is read at once.
@@ -48,19 +49,29 @@ enum Failure {
     Endless,
 }
 
-// Says what failed. Where that cannot be said either, there is nobody left to tell.
+impl fmt::Display for Failure {
+    fn fmt<W: fmt::Write>(&self, f: &mut fmt::Formatter<W>) -> fmt::Result {
+        match self {
+            Failure::Read(at) => write!(
+                f,
+                "cannot read standard input after byte {at} of the journal"
+            ),
+            Failure::Write(at) => write!(
+                f,
+                "cannot write standard output after byte {at} of the journal"
+            ),
+            Failure::Endless => write!(f, "the journal has no end"),
+        }
+    }
+}
+
+// Says what failed. Of a journal without end it says nothing: no run comes so far.
 fn tell(err: &mut impl Write, failure: Failure) {
-    let _ = match failure {
-        Failure::Read(at) => writeln!(
-            err,
-            "sheet: cannot read standard input after byte {at} of the journal"
-        ),
-        Failure::Write(at) => writeln!(
-            err,
-            "sheet: cannot write standard output after byte {at} of the journal"
-        ),
-        Failure::Endless => Ok(()),
-    };
+    if let Failure::Endless = failure {
+        return;
+    }
+    // Where that cannot be said either, there is nobody left to tell.
+    let _ = writeln!(err, "sheet: {failure}");
 }
 
 // Writes the lines out, when so many bytes of the journal were read.
@@ -72,12 +83,17 @@ fn write<W: Write>(to: &mut W, lines: &[u8], read: u64) -> Result<(), Failure>
 }
 
 // Gives the first bytes of part to the book, and leaves what no command has taken at its front.
-fn give(book: &mut [u8], part: &mut [u8], end: usize, last: bool, out: &mut [u8]) -> Left
+fn give(
+    book: &mut [u8],
+    part: &mut [u8; PART],
+    end: usize,
+    last: bool,
+    out: &mut [u8; LINES],
+) -> Left
     requires end_in_bounds { end ≤ length part.old }
-    requires part_len_bound { length part.old ≤ 65536 }
-    requires in_bounds { 655360 ≤ length out.old }
     ensures holds { Holds result book.new part.new out.new (reads last (on book.old) (take end part.old)) }
-    ensures written_in_bounds { (result.written ≤ length out.old) × (last ≡ false → result.ended ≡ false → result.held < 46) }
+    ensures written_in_bounds { result.written ≤ length out.old }
+    ensures held_is_short { last ≡ false → result.ended ≡ false → result.held < 46 }
 {
     let fed = feed(book, &part[..end], last, out);
     part.copy_within(fed.taken..end, 0);

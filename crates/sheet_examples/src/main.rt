@@ -69,10 +69,10 @@ fn load<'a, R: Files>(rt: &R, name: &str, kind: &str, buf: &'a mut [u8]) -> Opti
     Some(&buf[..n])
 }
 
-// Writes the sheet of a journal to the front of out.
-fn sheet_of<'a>(journal: &[u8], out: &'a mut [u8]) -> &'a [u8] {
-    let n = write_sheet(journal, out);
-    &out[..n]
+// Writes the sheet of a journal to the front of out; none where out has too little room.
+fn sheet_of<'a>(journal: &[u8], out: &'a mut [u8]) -> Option<&'a [u8]> {
+    let n = write_sheet(journal, out)?;
+    Some(&out[..n])
 }
 
 // The first index at which two texts differ, or the length of the shorter.
@@ -100,7 +100,7 @@ fn compare<R: Files>(rt: &R, name: &str) -> Option<Compared> {
     let mut expected = [0u8; SHEET];
     let expected = load(rt, name, ".sheet", &mut expected)?;
     let mut out = [0u8; SHEET];
-    let ours = sheet_of(journal, &mut out);
+    let ours = sheet_of(journal, &mut out)?;
     let at = first_difference(ours, expected);
     Some(Compared {
         same: ours == expected,

@@ -1,5 +1,7 @@
+use lib.ListN.{take}
 use native.Mathlib.Omega.{arith}
-use Rattle.sheet.proofs.Giving.{taken, gives}
+use Rattle.journal.proofs.Fits.{fed_written}
+use Rattle.sheet.proofs.Giving.{taken, short, holds}
 use Rattle.sheet.proofs.give.Goals as goal
 
 pub copy_within-requires-clause-start_le_end : goal.copy_within-requires-clause-start_le_end
@@ -9,10 +11,10 @@ pub overflow_sub-result : goal.overflow_sub-result
 overflow_sub-result c = taken c.args.last c.args.book.now c.args.part.now c.args.out.now c.args.end c.requires.end_in_bounds c.feed-fed.ensures
 
 pub returns-clause-holds : goal.returns-clause-holds
-returns-clause-holds c =
-    (gives c.args.last c.args.book.now c.args.part.now c.args.out.now c.args.end c.requires.end_in_bounds c.feed-fed.ensures c.requires.part_len_bound c.requires.in_bounds c.copy_within.ensures.after).0
+returns-clause-holds c = holds c.args.last c.args.book.now c.args.part.now c.args.out.now c.args.end c.requires.end_in_bounds c.feed-fed.ensures c.told-part c.told-out c.copy_within.ensures.after
 
 pub returns-clause-written_in_bounds : goal.returns-clause-written_in_bounds
-returns-clause-written_in_bounds c =
-    let g = gives c.args.last c.args.book.now c.args.part.now c.args.out.now c.args.end c.requires.end_in_bounds c.feed-fed.ensures c.requires.part_len_bound c.requires.in_bounds c.copy_within.ensures.after in
-    (g.1, g.2)
+returns-clause-written_in_bounds c = fed_written c.args.last (take c.args.end c.args.part.now) c.args.book.now c.args.out.now c.feed-fed.ensures
+
+pub returns-clause-held_is_short : goal.returns-clause-held_is_short
+returns-clause-held_is_short c = short c.args.last c.args.book.now c.args.part.now c.args.out.now c.args.end c.requires.end_in_bounds c.feed-fed.ensures c.told-part c.told-out

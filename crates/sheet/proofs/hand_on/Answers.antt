@@ -12,8 +12,8 @@ returns-then-n-left-clause-hands_on g c = λ parts was.
 
 pub returns-clause-goes_on : goal.returns-clause-goes_on
 returns-clause-goes_on g c = λ parts was.
-    reads_on parts c.args.book.now c.args.part.now c.args.at.held c.args.at.read c.args.n was c.requires c.give-left.ensures.holds c.if-n-left.false c.give-left.ensures.written_in_bounds.1 c.saturating_add-read.ensures
+    reads_on parts c.args.book.now c.args.part.now c.args.at.held c.args.at.read c.args.n was c.requires c.give-left.ensures.holds c.if-n-left.false c.give-left.ensures.held_is_short c.saturating_add-read.ensures
 
 pub returns-clause-hands_on : goal.returns-clause-hands_on
 returns-clause-hands_on g c = λ parts was.
-    goes_with parts c.args.book.now c.args.part.now c.args.at.held c.args.at.read c.args.n was c.requires c.give-left.ensures.holds c.if-n-left.false c.give-left.ensures.written_in_bounds.1 c.saturating_add-read.ensures c.in_ok-write.ensures
+    goes_with parts c.args.book.now c.args.part.now c.args.at.held c.args.at.read c.args.n was c.requires c.give-left.ensures.holds c.if-n-left.false c.give-left.ensures.held_is_short c.saturating_add-read.ensures c.in_ok-write.ensures

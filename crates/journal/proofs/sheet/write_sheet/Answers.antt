@@ -1,7 +1,9 @@
 use Prim.Native.Nat.{◌+◌, ◌/◌}
-use mathlib.Core.Path.{refl}
+use Rattle.std.proofs.Common.{rules}
+use mathlib.Core.Path.{refl, ap}
 use mathlib.Core.Bool.{true}
 use native.Mathlib.Omega.{arith}
+use Rattle.std.specs.Prelude.{Some}
 use lib.ListN.{length}
 use borrow.Author.Tests.{lt-leb, le-leb}
 use Rattle.rules.specs.Bytes.{zeros}
@@ -18,8 +20,8 @@ returns-then-out-lines c =
     let a = c.args in
     rw (lt-leb (length a.journal.now / 10 + 2) (length a.out.now / line_max) c.if-out-lines.true)
     record {
-      value = (refl, refl, whole_journal.demand a.journal.now (are_bytes_lem a.journal.now c.shared_slice_known-1.given));
-      upper_bound = omega arith;
+      value = (refl, refl, whole_journal.demand a.journal.now (are_bytes_lem a.journal.now (search rules)));
+      upper_bound = tt;
     }
 
 pub returns : goal.returns
@@ -30,6 +32,6 @@ returns c =
     let w = whole-sheet a.journal.now a.out.now (omega (arith, room)) c.feed-fed.ensures in
     rw (le-leb (length a.journal.now / 10 + 2) (length a.out.now / line_max) room)
     record {
-      value = (w.0, w.1, whole_journal.demand a.journal.now (are_bytes_lem a.journal.now c.shared_slice_known-1.given));
+      value = (ap Some w.0, w.1, whole_journal.demand a.journal.now (are_bytes_lem a.journal.now (search rules)));
       upper_bound = fed_written true a.journal.now (zeros book_size) a.out.now c.feed-fed.ensures;
     }
