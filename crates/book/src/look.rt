@@ -34,7 +34,8 @@ pub fn look_result(book: &[u8], series: u8) -> Result<(), Refusal>
     Ok(())
 }
 
-// The record's bytes; the empty part where the look is refused.
+// The record's bytes; the empty part where the look is refused, since every reader of a record takes
+// bytes of any length.
 pub fn look(book: &[u8], series: u8) -> &[u8]
     ensures { result.now ≡ value_or [] (look book.now series) }
 {

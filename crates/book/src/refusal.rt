@@ -6,50 +6,31 @@ use core_terms::error::CoreError;
 
 #[derive(Clone, Copy)]
 pub enum Refusal {
-    Overflow,
-    InvalidDiscriminant,
-    InvariantViolated,
-    InvalidOracleParams,
-    InvalidPrint,
-    PrintNotUsable,
-    ExponentMismatch,
-    ConfidenceTooWide,
-    UnknownCommand,
-    WrongWidth,
-    NoSuchSeries,
-    WrongBook,
-    SeriesUsed,
-    SeriesEmpty,
-    SeriesFixed,
-    StillWaiting,
-    NoSuchSlot,
-    SlotEmpty,
+    Overflow = 0,
+    InvalidDiscriminant = 1,
+    InvariantViolated = 11,
+    InvalidOracleParams = 12,
+    InvalidPrint = 13,
+    PrintNotUsable = 14,
+    ExponentMismatch = 16,
+    ConfidenceTooWide = 17,
+    UnknownCommand = 32,
+    WrongWidth = 33,
+    NoSuchSeries = 34,
+    WrongBook = 35,
+    SeriesUsed = 36,
+    SeriesEmpty = 37,
+    SeriesFixed = 38,
+    StillWaiting = 39,
+    NoSuchSlot = 40,
+    SlotEmpty = 41,
 }
 
 impl Refusal {
     pub fn number(self) -> u8
         ensures { result ≡ refusal_number self }
     {
-        match self {
-            Refusal::Overflow => 0,
-            Refusal::InvalidDiscriminant => 1,
-            Refusal::InvariantViolated => 11,
-            Refusal::InvalidOracleParams => 12,
-            Refusal::InvalidPrint => 13,
-            Refusal::PrintNotUsable => 14,
-            Refusal::ExponentMismatch => 16,
-            Refusal::ConfidenceTooWide => 17,
-            Refusal::UnknownCommand => 32,
-            Refusal::WrongWidth => 33,
-            Refusal::NoSuchSeries => 34,
-            Refusal::WrongBook => 35,
-            Refusal::SeriesUsed => 36,
-            Refusal::SeriesEmpty => 37,
-            Refusal::SeriesFixed => 38,
-            Refusal::StillWaiting => 39,
-            Refusal::NoSuchSlot => 40,
-            Refusal::SlotEmpty => 41,
-        }
+        self as u8
     }
 }
 

@@ -19,12 +19,12 @@ use numbers::time::{after, later};
 
 #[derive(Clone, Copy)]
 pub enum SettleMethod {
-    Window,
-    NextPrint,
-    PartialNextPrint,
-    PartialWindow,
-    Fallback,
-    Void,
+    Window = 0,
+    NextPrint = 1,
+    PartialNextPrint = 2,
+    PartialWindow = 3,
+    Fallback = 4,
+    Void = 5,
 }
 
 impl TryFrom<u8> for SettleMethod {
@@ -50,14 +50,7 @@ impl SettleMethod {
     pub fn number(self) -> u8
         ensures { result ≡ number (method_of self) }
     {
-        match self {
-            SettleMethod::Window => 0,
-            SettleMethod::NextPrint => 1,
-            SettleMethod::PartialNextPrint => 2,
-            SettleMethod::PartialWindow => 3,
-            SettleMethod::Fallback => 4,
-            SettleMethod::Void => 5,
-        }
+        self as u8
     }
 }
 
@@ -201,10 +194,7 @@ fn chain_first(links: u8, n: u16, order: Order) -> bool
     if n <= (links as u16) {
         return true;
     }
-    match order {
-        Order::Old => true,
-        Order::Voted => false,
-    }
+    matches!(order, Order::Old)
 }
 
 // The steps from the hard deadline on, with n slots filled.

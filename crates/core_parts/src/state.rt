@@ -11,7 +11,8 @@ ghost use Rattle.core_parts.specs.States.{stored_of, checked_of, link_place, all
 use core_terms::error::CoreError;
 use core_terms::params::{MAX_NEXT_PRINTS, MAX_SLOTS, OracleParams};
 
-// The candidates of one series in their stored form, untrusted until `in_range` is asked.
+// The candidates of one series in their stored form, untrusted until `in_range` is asked: the links'
+// times and prices are two rows, and where there is no link or no fallback there are zeros.
 #[derive(Clone, Copy, PartialEq)]
 pub struct SettlementParts {
     pub sample_sum: u128,
@@ -107,7 +108,9 @@ impl SettlementParts {
     }
 
     // `restore`'s test by the number of slots and k, which is all that it asks of the terms. A caller
-    // that has divided already hands its number on.
+    // that has divided already hands its number on. Inlined always, as are the two after it: else each
+    // caller copies the state for them, 30 to 130 instructions a command.
+    #[inline(always)]
     pub fn fits(self, slot_count: u32, k_next_print: u8) -> bool
         ensures { (t : Terms) → slots t ≡ slot_count → t.k ≡ k_next_print → result ≡ good_state t (stored_of self) }
     {
@@ -135,14 +138,14 @@ impl SettlementParts {
     }
 
     // `restore`'s test: every call that takes a state asks this, after the terms.
+    #[inline(always)]
     pub fn in_range(self, params: OracleParams) -> bool
         ensures { result ≡ good_state (terms_of params) (stored_of self) }
     {
         self.fits(params.slots(), params.k_next_print)
     }
 
-    // What each core call on terms and a state asks first: 12 for the terms, 11 for the state. Inlined
-    // always: else each caller copies the state for it, 30 to 70 instructions a command.
+    // What each core call on terms and a state asks first: 12 for the terms, 11 for the state.
     #[inline(always)]
     #[tactic(auto, unfolding(rules::specs::State::restore))]
     pub fn check(self, params: OracleParams) -> Result<(), CoreError>

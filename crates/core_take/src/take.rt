@@ -16,21 +16,14 @@ use core_prices::print::{Print, Quote, accept_print};
 use core_terms::error::CoreError;
 use core_terms::params::OracleParams;
 use core_terms::units::UnixTimestamp;
-use core_uses::uses::{fallback_in, first_link, is_used, later_link, slot_in};
-
-// What a print was used for.
-#[derive(Clone, Copy)]
-pub struct PrintUse {
-    pub slot: Option<u8>,
-    pub next_print: Option<u8>,
-    pub fallback: bool,
-}
+pub use core_uses::uses::PrintUse;
+use core_uses::uses::{fallback_in, first_link, later_link, slot_in};
 
 // The answer, and beside it the state, which holds arrays.
 #[derive(Clone, Copy)]
-pub struct Added {
+pub struct Added<S> {
     pub result: Result<PrintUse, CoreError>,
-    pub state: SettlementParts,
+    pub state: S,
 }
 
 // Canonical slot of the print, if it is one and the slot is empty.
@@ -159,26 +152,24 @@ fn with_fallback(s: SettlementParts, fallback: bool, x: Print, now: i64) -> Sett
 }
 
 // The state with each use of the print made.
-fn placed(
-    s: SettlementParts,
-    slot: Option<u8>,
-    next_print: Option<u8>,
-    fallback: bool,
-    sum: u128,
-    x: Print,
-    now: i64,
-) -> SettlementParts
-    requires slot_value { fillable s.filled_slots slot ≡ true }
-    requires next_print_value { linkable next_print ≡ true }
-    ensures { stored_of result ≡ with_fallback fallback (print_of x) now (with_link next_print (print_of x) now (with_slot slot sum now (stored_of s))) }
+fn placed(s: SettlementParts, u: PrintUse, sum: u128, x: Print, now: i64) -> SettlementParts
+    requires slot_value { fillable s.filled_slots u.slot ≡ true }
+    requires next_print_value { linkable u.next_print ≡ true }
+    ensures { stored_of result ≡ with_fallback u.fallback (print_of x) now (with_link u.next_print (print_of x) now (with_slot u.slot sum now (stored_of s))) }
 {
-    let slotted = with_slot(s, slot, sum, now);
-    let linked = with_next_print(slotted, next_print, x, now);
-    with_fallback(linked, fallback, x, now)
+    let slotted = with_slot(s, u.slot, sum, now);
+    let linked = with_next_print(slotted, u.next_print, x, now);
+    with_fallback(linked, u.fallback, x, now)
 }
 
 // Stores the print as every candidate that it qualifies for; a refused one changes nothing.
-fn add(p: OracleParams, s: SettlementParts, expiry: i64, x: Print, now: i64) -> Added
+fn add(
+    p: OracleParams,
+    s: SettlementParts,
+    expiry: i64,
+    x: Print,
+    now: i64,
+) -> Added<SettlementParts>
     requires { (good_terms (terms_of p) ≡ true) × (good_state (terms_of p) (stored_of s) ≡ true) }
     ensures { (used_of result.result ≡ print_answer (terms_of p) expiry (candidates_of (stored_of s)) (print_of x)) × (stored_of result.state ≡ (if is_used (print_answer (terms_of p) expiry (candidates_of (stored_of s)) (print_of x)) then parts_of (place (terms_of p) expiry (candidates_of (stored_of s)) (print_of x) now) else stored_of s)) }
 {
@@ -201,19 +192,20 @@ fn add(p: OracleParams, s: SettlementParts, expiry: i64, x: Print, now: i64) -> 
         };
     };
     let next_print = try_next_print(p, s, expiry, x);
-    if !is_used(slot, next_print, fallback) {
+    let found = PrintUse {
+        slot,
+        next_print,
+        fallback,
+    };
+    if !found.is_used() {
         return Added {
             result: Err(CoreError::PrintNotUsable),
             state: s,
         };
     }
     Added {
-        result: Ok(PrintUse {
-            slot,
-            next_print,
-            fallback,
-        }),
-        state: placed(s, slot, next_print, fallback, sum, x, now),
+        result: Ok(found),
+        state: placed(s, found, sum, x, now),
     }
 }
 
@@ -225,7 +217,7 @@ pub fn add_print(
     expiry: UnixTimestamp,
     print: Print,
     now: i64,
-) -> Added
+) -> Added<SettlementParts>
     ensures { (used_of result.result ≡ add_print_call (terms_of params) expiry.0 (stored_of state) (print_of print)) × (stored_of result.state ≡ add_print_state (terms_of params) expiry.0 (stored_of state) (print_of print) now) }
 {
     if let Err(e) = state.check(params) {
@@ -252,7 +244,7 @@ pub fn offer(
     max_conf_bps: u16,
     quote: Quote,
     now: i64,
-) -> Added
+) -> Added<SettlementParts>
     ensures { (used_of result.result ≡ offer_call (terms_of params) max_conf_bps expiry.0 (stored_of state) (quote_of quote)) × (stored_of result.state ≡ offer_state (terms_of params) max_conf_bps expiry.0 (stored_of state) (quote_of quote) now) }
 {
     if let Err(e) = state.check(params) {

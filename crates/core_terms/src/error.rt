@@ -4,29 +4,20 @@ ghost use Rattle.core_terms.specs.Errors.{number_of};
 
 #[derive(Clone, Copy)]
 pub enum CoreError {
-    Overflow,
-    InvalidDiscriminant,
-    InvariantViolated,
-    InvalidOracleParams,
-    InvalidPrint,
-    PrintNotUsable,
-    ExponentMismatch,
-    ConfidenceTooWide,
+    Overflow = 0,
+    InvalidDiscriminant = 1,
+    InvariantViolated = 11,
+    InvalidOracleParams = 12,
+    InvalidPrint = 13,
+    PrintNotUsable = 14,
+    ExponentMismatch = 16,
+    ConfidenceTooWide = 17,
 }
 
 impl CoreError {
     pub fn number(self) -> u8
         ensures { result ≡ number_of self }
     {
-        match self {
-            CoreError::Overflow => 0,
-            CoreError::InvalidDiscriminant => 1,
-            CoreError::InvariantViolated => 11,
-            CoreError::InvalidOracleParams => 12,
-            CoreError::InvalidPrint => 13,
-            CoreError::PrintNotUsable => 14,
-            CoreError::ExponentMismatch => 16,
-            CoreError::ConfidenceTooWide => 17,
-        }
+        self as u8
     }
 }

@@ -23,19 +23,17 @@ pub(crate) fn mean(b: &[u8; 30]) -> bool {
     (u8::read(b, 21), u64::read(b, 22)) == answer
 }
 
-fn is_print(p: Print, price: u64, publish: i64, prev: i64) -> bool {
-    (p.price() == price) & (p.publish_time() == publish) & (p.prev_publish_time() == prev)
-}
-
 fn is_accepted(b: &[u8], r: Result<Print, CoreError>) -> bool {
-    let code = u8::read(b, 39);
-    let price = u64::read(b, 40);
-    let publish = i64::read(b, 48);
-    let prev = i64::read(b, 56);
-    match r {
-        Ok(p) => (code == 255) & is_print(p, price, publish, prev),
-        Err(e) => { (code == e.number()) & (price == 0) & (publish == 0) & (prev == 0) }
-    }
+    let answer = match r {
+        Ok(p) => (255, p.price(), p.publish_time(), p.prev_publish_time()),
+        Err(e) => (e.number(), 0, 0, 0),
+    };
+    (
+        u8::read(b, 39),
+        u64::read(b, 40),
+        i64::read(b, 48),
+        i64::read(b, 56),
+    ) == answer
 }
 
 pub(crate) fn accept(b: &[u8; 64]) -> bool {
@@ -193,7 +191,10 @@ pub(crate) fn print(b: &[u8; 25]) -> bool {
     let prev = i64::read(b, 16);
     let code = u8::read(b, 24);
     match Print::try_new(price, publish, prev) {
-        Ok(p) => (code == 255) & is_print(p, price, publish, prev),
+        Ok(p) => {
+            (code, p.price(), p.publish_time(), p.prev_publish_time())
+                == (255, price, publish, prev)
+        }
         Err(e) => code == e.number(),
     }
 }

@@ -128,9 +128,19 @@ pub fn fallback_in(
 
 // ---- all of them
 
-// Whether the print has a use at all.
-pub fn is_used(slot: Option<u8>, next_print: Option<u8>, fallback: bool) -> bool
-    ensures { result ≡ is_some slot || is_some next_print || fallback }
-{
-    slot.is_some() || next_print.is_some() || fallback
+// What a print is used for.
+#[derive(Clone, Copy)]
+pub struct PrintUse {
+    pub slot: Option<u8>,
+    pub next_print: Option<u8>,
+    pub fallback: bool,
+}
+
+impl PrintUse {
+    // Whether the print has a use at all.
+    pub fn is_used(self) -> bool
+        ensures { result ≡ is_some self.slot || is_some self.next_print || self.fallback }
+    {
+        self.slot.is_some() || self.next_print.is_some() || self.fallback
+    }
 }

@@ -39,7 +39,7 @@ pub fn add_through(
     expiry: UnixTimestamp,
     print: Print,
     now: i64,
-) -> Added
+) -> Added<SettlementState>
     ensures { (used_of result.result ≡ add_print_call (terms_of params) expiry.0 (state_of state) (print_of print))
         × (state_of result.state ≡ add_print_state (terms_of params) expiry.0 (state_of state) (print_of print) now) }
 {

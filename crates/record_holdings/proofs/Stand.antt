@@ -260,7 +260,7 @@ module _ (bs : Bytes) where
     unfolding candidates_of
     few = ltb-true (parts_in bs).bits (2 ^ slot_places) (bits_fit bs are)
 
-    left_is : low_slots (holdings_in bs) ≡ true → slots_after (opening_in bs) (holdings_in bs) ≡ true → every (link_tests bs) ≡ true
+    pub left_is : low_slots (holdings_in bs) ≡ true → slots_after (opening_in bs) (holdings_in bs) ≡ true → every (link_tests bs) ≡ true
         → every (fallback_tests bs) ≡ left_by_prints (opening_in bs) (holdings_in bs)
     unfolding left_by_prints
     left_is low slot link =

@@ -1,5 +1,8 @@
 -- What stands in a record, by its fields.
-use Rattle.std.specs.Prelude.{if◌then◌else◌}
+use Rattle.std.specs.Prelude.{if◌then◌else◌, List, [], ◌∷◌}
+use native.Mathlib.Omega.{arith}
+use Rattle.std.specs.Array.{IsMapOf, MapsFrom}
+use Rattle.std.specs.Fn.{Mut, Called}
 use Prim.Native.Nat.{ℕ}
 use mathlib.Core.Path.{◌≡◌, refl, sym, ap, ◌∙◌}
 use mathlib.Core.Bool.{Bool, true, false}
@@ -52,3 +55,29 @@ method-back n m e = go (eqb n 0) (eqb n 1) (eqb n 2) (eqb n 3) (eqb n 4) (eqb n 
     go false false false false true g p q r s t u e = same Method.Fallback e (sym (eqb-true n 4 t))
     go false false false false false true p q r s t u e = same Method.Void e (sym (eqb-true n 5 u))
     go false false false false false false p q r s t u e = cc
+
+-- ---- what a closure that stays as it is gives of five numbers
+
+module _ {F B : Type 0} (g : Mut F (ℕ × Unit {0}) B) (h : ℕ → B) {f : F} (step : (x : ℕ) (y : B) (q : F) → Called g f (x, tt) y q → (q ≡ f) × (y ≡ h x)) where
+  one_mapped : {p q : F} {x a : ℕ} {v y : B} → p ≡ f → a ≡ x → y ≡ v → Called g p (x, tt) v q → (q ≡ f) × (y ≡ h a)
+  one_mapped {p} {q} {x} {a} {v} {y} ep ex ey k =
+      let (stays, gives) = step x v q (rw ep at k) in
+      (stays, ey ∙ gives ∙ ap h (sym ex))
+
+  pub five_mapped : {a b c d e : ℕ} {ys : List B} → IsMapOf g f (a ∷ b ∷ c ∷ d ∷ e ∷ []) ys 5 → ys ≡ h a ∷ h b ∷ h c ∷ h d ∷ h e ∷ []
+  five_mapped {a} {b} {c} {d} {e} {ys} m = go ys m.long m.each
+    where
+      go : (ys : List B) → length ys ≡ 5 → MapsFrom g f (a ∷ b ∷ c ∷ d ∷ e ∷ []) ys 0 5 → ys ≡ h a ∷ h b ∷ h c ∷ h d ∷ h e ∷ []
+      go (y0 ∷ y1 ∷ y2 ∷ y3 ∷ y4 ∷ []) l (q0, x0, v0, i0, j0, k0, (q1, x1, v1, i1, j1, k1, (q2, x2, v2, i2, j2, k2, (q3, x3, v3, i3, j3, k3, (q4, x4, v4, i4, j4, k4, end))))) =
+          let (s0, e0) = one_mapped refl i0.0 j0.0 k0 in
+          let (s1, e1) = one_mapped s0 i1.0 j1.0 k1 in
+          let (s2, e2) = one_mapped s1 i2.0 j2.0 k2 in
+          let (s3, e3) = one_mapped s2 i3.0 j3.0 k3 in
+          let (s4, e4) = one_mapped s3 i4.0 j4.0 k4 in
+          λ i. e0 i ∷ e1 i ∷ e2 i ∷ e3 i ∷ e4 i ∷ []
+      go [] l m = cc
+      go (y0 ∷ []) l m = cc
+      go (y0 ∷ y1 ∷ []) l m = cc
+      go (y0 ∷ y1 ∷ y2 ∷ []) l m = cc
+      go (y0 ∷ y1 ∷ y2 ∷ y3 ∷ []) l m = cc
+      go (y0 ∷ y1 ∷ y2 ∷ y3 ∷ y4 ∷ y5 ∷ ys) l m = let no : ⊥ = omega (arith, l) in absurd no

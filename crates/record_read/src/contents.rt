@@ -42,20 +42,8 @@ fn read_state(bytes: &[u8]) -> SettlementParts
     SettlementParts {
         sample_sum: u128::read(bytes, 48),
         filled_slots: u32::read(bytes, 32),
-        next_times: [
-            i64::read(bytes, 64),
-            i64::read(bytes, 72),
-            i64::read(bytes, 80),
-            i64::read(bytes, 88),
-            i64::read(bytes, 96),
-        ],
-        next_prices: [
-            u64::read(bytes, 104),
-            u64::read(bytes, 112),
-            u64::read(bytes, 120),
-            u64::read(bytes, 128),
-            u64::read(bytes, 136),
-        ],
+        next_times: [64, 72, 80, 88, 96].map(|at| i64::read(bytes, at)),
+        next_prices: [104, 112, 120, 128, 136].map(|at| u64::read(bytes, at)),
         next_len: u8::read(bytes, 3),
         fallback_time: i64::read(bytes, 144),
         fallback_price: u64::read(bytes, 152),
@@ -65,7 +53,8 @@ fn read_state(bytes: &[u8]) -> SettlementParts
     }
 }
 
-// Zeros, which no core call takes for terms.
+// Zeros, which no core call takes for terms: who reads a record needs no case of its own for bytes of
+// another length.
 fn no_contents() -> Contents
     ensures { contents_of result ≡ no_contents }
 {
@@ -81,7 +70,7 @@ fn no_contents() -> Contents
         expo: 0,
     };
     Contents {
-        params: params,
+        params,
         max_conf_bps: 0,
         expiry: UnixTimestamp::new(0),
         state: SettlementParts::empty(),

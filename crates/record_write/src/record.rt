@@ -14,7 +14,9 @@ use core_parts::state::SettlementParts;
 use core_terms::params::OracleParams;
 use endian::LittleEndian;
 
-// The fields of a record beside its opening and its candidates.
+// The fields of a record beside its opening and its candidates. The tag and the method are bytes of the
+// format, and the definitions of a record speak of them as these numbers too: enums would be turned back
+// where they are written.
 #[derive(Clone, Copy)]
 pub struct Outcome {
     pub tag: u8,

@@ -8,17 +8,9 @@ ghost use Rattle.metalbook_core.specs.States.{state_of};
 
 use crate::settlement::state::SettlementState;
 use core_prices::print::{Print, Quote};
-pub use core_take::take::PrintUse;
-use core_terms::error::CoreError;
+pub use core_take::take::{Added, PrintUse};
 use core_terms::params::OracleParams;
 use core_terms::units::UnixTimestamp;
-
-// The answer, and beside it the state, which holds arrays.
-#[derive(Clone, Copy)]
-pub struct Added {
-    pub result: Result<PrintUse, CoreError>,
-    pub state: SettlementState,
-}
 
 impl SettlementState {
     // Takes a print: 12 for the terms, 11 for the state, 13 for the print, and then the core's
@@ -29,16 +21,15 @@ impl SettlementState {
         expiry: UnixTimestamp,
         print: Print,
         now: i64,
-    ) -> Added
+    ) -> Added<SettlementState>
         ensures { (used_of result.result ≡ add_print_call (terms_of params) expiry.0 (state_of self) (print_of print)) × (state_of result.state ≡ add_print_state (terms_of params) expiry.0 (state_of self) (print_of print) now) }
     {
-        let p = self.parts;
-        let r = core_take::take::add_print(p, params, expiry, print, now);
-        let result = r.result;
-        let next = r.state;
+        let Added { result, state } = core_take::take::add_print(
+            self.parts, params, expiry, print, now,
+        );
         Added {
             result,
-            state: SettlementState { parts: next },
+            state: SettlementState { parts: state },
         }
     }
 
@@ -51,16 +42,20 @@ impl SettlementState {
         max_conf_bps: u16,
         quote: Quote,
         now: i64,
-    ) -> Added
+    ) -> Added<SettlementState>
         ensures { (used_of result.result ≡ offer_call (terms_of params) max_conf_bps expiry.0 (state_of self) (quote_of quote)) × (state_of result.state ≡ offer_state (terms_of params) max_conf_bps expiry.0 (state_of self) (quote_of quote) now) }
     {
-        let p = self.parts;
-        let r = core_take::take::offer(p, params, expiry, max_conf_bps, quote, now);
-        let result = r.result;
-        let next = r.state;
+        let Added { result, state } = core_take::take::offer(
+            self.parts,
+            params,
+            expiry,
+            max_conf_bps,
+            quote,
+            now,
+        );
         Added {
             result,
-            state: SettlementState { parts: next },
+            state: SettlementState { parts: state },
         }
     }
 }
