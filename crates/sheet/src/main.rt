@@ -65,12 +65,8 @@ impl fmt::Display for Failure {
     }
 }
 
-// Says what failed. Of a journal without end it says nothing: no run comes so far.
+// Says what failed. Where that cannot be said either, there is nobody left to tell.
 fn tell(err: &mut impl Write, failure: Failure) {
-    if let Failure::Endless = failure {
-        return;
-    }
-    // Where that cannot be said either, there is nobody left to tell.
     let _ = writeln!(err, "sheet: {failure}");
 }
 
