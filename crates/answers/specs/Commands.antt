@@ -1,10 +1,15 @@
 -- A command of a series given by itself: 35, 34 and 11 come before the command's own answer.
-use Rattle.std.specs.Prelude.{ℕ, ◌≡◌}
+use Rattle.std.specs.Prelude.{ℕ, ◌≡◌, Result as Outcome}
 use Rattle.rules.specs.Bytes.{Bytes}
 use Rattle.rules.specs.Answers.{Result, ok, refused, Answer, Opened, Used, Wait, Settle, Done, Refused}
 use Rattle.rules.specs.Series.{Command}
 use Rattle.rules.specs.Book.{look, stored_answer, written}
+use Rattle.core_terms.specs.declared.error.CoreError.{CoreError}
+use Rattle.core_decide.specs.Decisions.{decision_of}
+use Rattle.core_decide.specs.declared.decide.Decision.{Decision}
 use Rattle.book.specs.Refusals.{in_book}
+use Rattle.answers.specs.Answers.{answer_of}
+use Rattle.answers.specs.declared.answer.Answer as A
 use Rattle.record_test.specs.declared.status.Status.{Status}
 use Rattle.record_test.specs.declared.status.Status.TheVariants as S
 use Rattle.record_test.specs.Statuses.{status_in, stored_at}
@@ -34,3 +39,7 @@ book_answer (Settle m p n) = Settle m p n
 book_answer Answer.Void = Answer.Void
 book_answer Done = Done
 book_answer (Refused n) = Refused (in_book n)
+
+-- the answer of a core call's result
+abbrev pub IsBookAnswer : Outcome Decision CoreError → A.Answer → Type 0
+IsBookAnswer r a = answer_of a ≡ book_answer (decision_of r)

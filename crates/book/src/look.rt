@@ -21,7 +21,8 @@ pub const SERIES_COUNT: u8 = 64;
 // The bytes of a book.
 pub const BOOK_SIZE: usize = 29_184;
 
-// Whether the look is allowed, or its refusal.
+// Whether the look is allowed, or its refusal. It stands apart from `look`, which gives back the bytes
+// themselves: so 01 asks.
 pub fn look_result(book: &[u8], series: u8) -> Result<(), Refusal>
     ensures { allowed_as (record_at series book.now) result ≡ look book.now series }
 {

@@ -4,7 +4,7 @@ ghost use Rattle.book.specs.Refusals.{refusal_number, IsInBook};
 
 use core_terms::error::CoreError;
 
-#[derive(Clone, Copy)]
+#[derive(Debug, Clone, Copy, PartialEq, Eq)]
 pub enum Refusal {
     Overflow = 0,
     InvalidDiscriminant = 1,

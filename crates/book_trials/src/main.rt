@@ -35,8 +35,8 @@ impl Trial for Journals {
     }
 }
 
-// What is said of a fault differs, and so does the rest: a shared main would need a method of the
-// trial for each line.
+// What is said of a fault is not what `core_trials` says, nor is the rest: a shared main would need a method
+// of the trial for each line.
 fn main(rt: HostRuntime) -> io::Result<()> {
     let mut journals = Journals {
         number: 0,

@@ -1,5 +1,5 @@
 // An answer as a sample records it: a code and three numbers. The entry for C makes the same codes,
-// but a trial takes nothing from what it tries.
+// but it is a static library, which no other crate can name.
 use answers::answer::Answer;
 use endian::LittleEndian;
 

@@ -26,7 +26,7 @@ pub(crate) struct Tally {
 impl Tally {
     pub(crate) fn new() -> Tally {
         Tally {
-            answers: Compared::new(),
+            answers: Compared::default(),
             by_code: [0; 256],
             different_books: 0,
             first: None,

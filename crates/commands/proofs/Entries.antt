@@ -11,7 +11,10 @@ use borrow.Author.Tests.{ltb-true, ne_eqb}
 use Rattle.rules.specs.Bytes.{Bytes, unsigned_at}
 use Rattle.rules.specs.Series.{Command, Open, Offer, Ask, Fix, Withdraw}
 use Rattle.rules.specs.Record.{series_count}
-use Rattle.rules.specs.Entries.{Entry, no_command, command, opening_at, quote_at, now_at, slot_at, of_width, entry}
+use Rattle.rules.specs.Entries.{Entry, no_command, command, opening_at, quote_at, now_at, slot_at, width, of_width, entry}
+use Rattle.commands.specs.Kinds.{byte_of, command_at}
+use Rattle.commands.specs.declared.kind.Kind.{Kind}
+use Rattle.commands.specs.declared.kind.Kind.TheVariants as K
 
 -- the entry by the tests of its first byte
 abbrev tested : Bytes → Bool → Bool → Bool → Bool → Bool → Entry
@@ -37,11 +40,37 @@ unfolding entry
 entry-from [] h e = absurd (omega arith)
 entry-from (a ∷ bs) h e = sym (ap (from (a ∷ bs)) e)
 
-pub entry_unknown : (bs : Bytes) → 1 ≤ length bs → (get_or bs 0 0 ≡ 1 → ⊥) → (get_or bs 0 0 ≡ 2 → ⊥) → (get_or bs 0 0 ≡ 3 → ⊥) → (get_or bs 0 0 ≡ 4 → ⊥) → (get_or bs 0 0 ≡ 6 → ⊥)
-    → no_command 32 ≡ entry bs
-entry_unknown bs h one two three four six =
-    simp (ne_eqb (get_or bs 0 0) 1 one, ne_eqb (get_or bs 0 0) 2 two, ne_eqb (get_or bs 0 0) 3 three, ne_eqb (get_or bs 0 0) 4 four, ne_eqb (get_or bs 0 0) 6 six)
+-- by the kind that its first byte says
+pub entry_of_kind : (k : Kind) (bs : Bytes) → 1 ≤ length bs → byte_of k ≡ get_or bs 0 0 → of_width (width (byte_of k)) bs (command_at k bs) ≡ entry bs
+entry_of_kind K.Open bs h e = entry-from bs (omega arith) (sym e)
+entry_of_kind K.Offer bs h e = entry-from bs (omega arith) (sym e)
+entry_of_kind K.Ask bs h e = entry-from bs (omega arith) (sym e)
+entry_of_kind K.Fix bs h e = entry-from bs (omega arith) (sym e)
+entry_of_kind K.Withdraw bs h e = entry-from bs (omega arith) (sym e)
+
+-- or where it says none
+pub entry_unknown : (bs : Bytes) → 1 ≤ length bs → ((k : Kind) → byte_of k ≡ get_or bs 0 0 → ⊥) → no_command 32 ≡ entry bs
+entry_unknown bs h none =
+    let b = get_or bs 0 0 in
+    simp (
+      ne_eqb b 1 (λ e. none K.Open (sym e)),
+      ne_eqb b 2 (λ e. none K.Offer (sym e)),
+      ne_eqb b 3 (λ e. none K.Ask (sym e)),
+      ne_eqb b 4 (λ e. none K.Fix (sym e)),
+      ne_eqb b 6 (λ e. none K.Withdraw (sym e)),
+    )
     at (entry-from bs (omega arith) refl)
+
+-- no command, no width of its own
+pub unknown_width : (b : ℕ) → ((k : Kind) → byte_of k ≡ b → ⊥) → width b ≡ 1
+unknown_width b none =
+    simp (
+      ne_eqb b 1 (λ e. none K.Open (sym e)),
+      ne_eqb b 2 (λ e. none K.Offer (sym e)),
+      ne_eqb b 3 (λ e. none K.Ask (sym e)),
+      ne_eqb b 4 (λ e. none K.Fix (sym e)),
+      ne_eqb b 6 (λ e. none K.Withdraw (sym e)),
+    )
 
 -- ---- the series of a command
 

@@ -1,6 +1,5 @@
 -- Entries, read as the rules' entries.
-use Rattle.std.specs.Prelude.{ℕ, ◌≡◌, length, Result, Ok, Err}
-use Rattle.rules.specs.Bytes.{Bytes}
+use Rattle.std.specs.Prelude.{ℕ, Result, Ok, Err}
 use Rattle.rules.specs.Series as S
 use Rattle.rules.specs.Entries as E
 use Rattle.core_prices.specs.Prints.{quote_of}
@@ -8,10 +7,10 @@ use Rattle.book.specs.Refusals.{refusal_number}
 use Rattle.book.specs.declared.refusal.Refusal.{Refusal}
 use Rattle.commands.specs.declared.command.Command.{Command}
 use Rattle.commands.specs.declared.command.Command.TheVariants as N
-use Rattle.record_read.specs.Records.{opening_with}
+use Rattle.record_read.specs.Records.{opening_of}
 
 abbrev pub command_of : Command → E.Entry
-command_of (N.Open series params bps expiry) = E.command series (S.Open (opening_with params bps expiry.0))
+command_of (N.Open series opening) = E.command series (S.Open (opening_of opening))
 command_of (N.Offer series quote now) = E.command series (S.Offer (quote_of quote) now)
 command_of (N.Ask series now) = E.command series (S.Ask now)
 command_of (N.Fix series now) = E.command series (S.Fix now)
@@ -21,12 +20,7 @@ abbrev pub entry_of : Result Command Refusal → E.Entry
 entry_of (Ok c) = command_of c
 entry_of (Err r) = E.no_command (refusal_number r)
 
--- the entry of a command, by its width and its series
+-- the entry of a command, by its series
 abbrev pub series_result_of : Result ℕ Refusal → S.Command → E.Entry
 series_result_of (Ok series) c = E.command series c
 series_result_of (Err r) c = E.no_command (refusal_number r)
-
--- where there is a series, the entry has its width
-abbrev pub is_wide : Result ℕ Refusal → ℕ → Bytes → Type 0
-is_wide (Ok series) width bytes = length bytes ≡ width
-is_wide (Err r) width bytes = Unit

@@ -22,14 +22,7 @@ pub fn apply(book: &mut [u8], entry: &[u8]) -> Answer
         return Answer::Refused(Refusal::WrongBook);
     }
     match read_entry(entry) {
-        Ok(
-            Command::Open {
-                series,
-                params,
-                max_conf_bps,
-                expiry,
-            },
-        ) => open(book, series, params, max_conf_bps, expiry),
+        Ok(Command::Open { series, opening }) => open(book, series, opening),
         Ok(Command::Offer { series, quote, now }) => offer(book, series, quote, now),
         Ok(Command::Ask { series, now }) => ask(&book[..], series, now),
         Ok(Command::Fix { series, now }) => fix(book, series, now),

@@ -1,52 +1,39 @@
 // Entries: a command in bytes, or none.
 ghost use Rattle.std.specs.Prelude.{◌≡◌};
 ghost use Rattle.rules.specs.Series as C;
-ghost use Rattle.rules.specs.Entries.{opening_at, quote_at, now_at, slot_at, of_width, entry};
+ghost use Rattle.rules.specs.Entries as E;
+ghost use Rattle.rules.specs.Entries.{opening_at, quote_at, width, of_width};
 ghost use Rattle.core_terms.specs.Params.{terms_of};
 ghost use Rattle.core_prices.specs.Prints.{quote_of};
-ghost use Rattle.commands.specs.Entries.{series_result_of, is_wide, entry_of};
+ghost use Rattle.record_read.specs.Records.{opening_of};
+ghost use Rattle.commands.specs.Kinds.{byte_of, command_at};
+ghost use Rattle.commands.specs.Entries.{entry_of, series_result_of};
 
+use crate::kind::Kind;
 use book::look::SERIES_COUNT;
 use book::refusal::Refusal;
 use core_prices::print::Quote;
 use core_terms::params::OracleParams;
 use core_terms::units::UnixTimestamp;
 use endian::LittleEndian;
+use record_read::contents::Opening;
 
-#[derive(Clone, Copy)]
+// A command of a series.
+#[derive(Debug, Clone, Copy, PartialEq, Eq)]
 pub enum Command {
-    Open {
-        series: u8,
-        params: OracleParams,
-        max_conf_bps: u16,
-        expiry: UnixTimestamp,
-    },
-    Offer {
-        series: u8,
-        quote: Quote,
-        now: i64,
-    },
-    Ask {
-        series: u8,
-        now: i64,
-    },
-    Fix {
-        series: u8,
-        now: i64,
-    },
-    Withdraw {
-        series: u8,
-        now: i64,
-        slot: u8,
-    },
+    Open { series: u8, opening: Opening },
+    Offer { series: u8, quote: Quote, now: i64 },
+    Ask { series: u8, now: i64 },
+    Fix { series: u8, now: i64 },
+    Withdraw { series: u8, now: i64, slot: u8 },
 }
 
-// The series of an entry of the given width, or 33 or 34.
+// The series of an entry of this kind, or 33 or 34.
 #[inline(always)]
-fn series_of(bytes: &[u8], width: usize) -> Result<u8, Refusal>
-    ensures { ((c : C.Command) → series_result_of result c ≡ of_width width bytes.now c) × is_wide result width bytes.now }
+fn series_of(bytes: &[u8], kind: Kind) -> Result<u8, Refusal>
+    ensures { (c : C.Command) → series_result_of result c ≡ of_width (width (byte_of kind)) bytes.now c }
 {
-    if bytes.len() != width {
+    if bytes.len() != kind.width() {
         return Err(Refusal::WrongWidth);
     }
     let series = u8::read(bytes, 1);
@@ -56,7 +43,7 @@ fn series_of(bytes: &[u8], width: usize) -> Result<u8, Refusal>
     Ok(series)
 }
 
-// The terms of an open.
+// The terms of an open. They lie in another order in a record, which `record_read` reads.
 #[inline(always)]
 fn read_params(bytes: &[u8]) -> OracleParams
     ensures { terms_of result ≡ (opening_at bytes.now).terms }
@@ -74,6 +61,18 @@ fn read_params(bytes: &[u8]) -> OracleParams
     }
 }
 
+// What an open opens with.
+#[inline(always)]
+fn read_opening(bytes: &[u8]) -> Opening
+    ensures { opening_of result ≡ opening_at bytes.now }
+{
+    Opening {
+        params: read_params(bytes),
+        max_conf_bps: u16::read(bytes, 28),
+        expiry: UnixTimestamp::new(i64::read(bytes, 30)),
+    }
+}
+
 // The quote of an offer.
 #[inline(always)]
 fn read_quote(bytes: &[u8]) -> Quote
@@ -88,80 +87,45 @@ fn read_quote(bytes: &[u8]) -> Quote
     }
 }
 
+// The command of this kind, or 33 or 34. Each arm asks for the series itself: so the compiler knows
+// the width there, and leaves out the tests of the readers.
 #[inline(always)]
-fn open_entry(bytes: &[u8]) -> Result<Command, Refusal>
-    ensures { entry_of result ≡ of_width 38 bytes.now (C.Open (opening_at bytes.now)) }
+fn read_command(bytes: &[u8], kind: Kind) -> Result<Command, Refusal>
+    ensures { entry_of result ≡ of_width (width (byte_of kind)) bytes.now (command_at kind bytes.now) }
 {
-    let series = series_of(bytes, 38)?;
-    Ok(Command::Open {
-        series,
-        params: read_params(bytes),
-        max_conf_bps: u16::read(bytes, 28),
-        expiry: UnixTimestamp::new(i64::read(bytes, 30)),
-    })
-}
-
-#[inline(always)]
-fn offer_entry(bytes: &[u8]) -> Result<Command, Refusal>
-    ensures { entry_of result ≡ of_width 46 bytes.now (C.Offer (quote_at bytes.now) (now_at bytes.now)) }
-{
-    let series = series_of(bytes, 46)?;
-    Ok(Command::Offer {
-        series,
-        quote: read_quote(bytes),
-        now: i64::read(bytes, 2),
-    })
-}
-
-#[inline(always)]
-fn ask_entry(bytes: &[u8]) -> Result<Command, Refusal>
-    ensures { entry_of result ≡ of_width 10 bytes.now (C.Ask (now_at bytes.now)) }
-{
-    let series = series_of(bytes, 10)?;
-    Ok(Command::Ask {
-        series,
-        now: i64::read(bytes, 2),
-    })
-}
-
-#[inline(always)]
-fn fix_entry(bytes: &[u8]) -> Result<Command, Refusal>
-    ensures { entry_of result ≡ of_width 10 bytes.now (C.Fix (now_at bytes.now)) }
-{
-    let series = series_of(bytes, 10)?;
-    Ok(Command::Fix {
-        series,
-        now: i64::read(bytes, 2),
-    })
-}
-
-#[inline(always)]
-fn withdraw_entry(bytes: &[u8]) -> Result<Command, Refusal>
-    ensures { entry_of result ≡ of_width 11 bytes.now (C.Withdraw (now_at bytes.now) (slot_at bytes.now)) }
-{
-    let series = series_of(bytes, 11)?;
-    Ok(Command::Withdraw {
-        series,
-        now: i64::read(bytes, 2),
-        slot: u8::read(bytes, 10),
+    Ok(match kind {
+        Kind::Open => Command::Open {
+            series: series_of(bytes, kind)?,
+            opening: read_opening(bytes),
+        },
+        Kind::Offer => Command::Offer {
+            series: series_of(bytes, kind)?,
+            quote: read_quote(bytes),
+            now: i64::read(bytes, 2),
+        },
+        Kind::Ask => Command::Ask {
+            series: series_of(bytes, kind)?,
+            now: i64::read(bytes, 2),
+        },
+        Kind::Fix => Command::Fix {
+            series: series_of(bytes, kind)?,
+            now: i64::read(bytes, 2),
+        },
+        Kind::Withdraw => Command::Withdraw {
+            series: series_of(bytes, kind)?,
+            now: i64::read(bytes, 2),
+            slot: u8::read(bytes, 10),
+        },
     })
 }
 
 // The command that any bytes are, or 33, 32, 33, 34.
 #[inline(always)]
-#[tactic(auto, using(crate::proofs::Entries::entry_unknown))]
 pub fn read_entry(bytes: &[u8]) -> Result<Command, Refusal>
-    ensures { entry_of result ≡ entry bytes.now }
+    ensures { entry_of result ≡ E.entry bytes.now }
 {
-    let [kind, ..] = bytes else {
+    let [first, ..] = bytes else {
         return Err(Refusal::WrongWidth);
     };
-    match kind {
-        1 => open_entry(bytes),
-        2 => offer_entry(bytes),
-        3 => ask_entry(bytes),
-        4 => fix_entry(bytes),
-        6 => withdraw_entry(bytes),
-        _ => Err(Refusal::UnknownCommand),
-    }
+    read_command(bytes, Kind::try_from(*first)?)
 }

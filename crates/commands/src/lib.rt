@@ -4,3 +4,4 @@
 
 pub mod apply;
 pub mod command;
+pub mod kind;

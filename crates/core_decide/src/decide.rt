@@ -1,13 +1,13 @@
 // The settlement cascade: what a series' candidates settle at, and from when.
 ghost use Rattle.std.specs.Prelude.{◌≡◌, ◌+◌, ◌*◌, ◌^◌, ◌≤◌, ℤ, pos, ◌+ℤ◌, Result};
 ghost use Rattle.rules.specs.Log.{front, total};
-ghost use Rattle.rules.specs.Answers.{Answer, number};
+ghost use Rattle.rules.specs.Answers.{Answer, number, final};
 ghost use Rattle.rules.specs.Decision.{ones, settle, from, voted, decide_by};
 ghost use Rattle.rules.specs.State.{candidates_of, decide_call};
 ghost use Rattle.core_terms.specs.Params.{terms_of};
 ghost use Rattle.core_terms.specs.declared.error.CoreError.{CoreError};
 ghost use Rattle.core_parts.specs.States.{stored_of};
-ghost use Rattle.core_decide.specs.Decisions.{method_of, IsMethod, decision_of, order_of, chain_first, decide_from};
+ghost use Rattle.core_decide.specs.Decisions.{method_of, IsMethod, answer_of, decision_of, order_of, chain_first, decide_from};
 ghost use Rattle.core_decide.specs.declared.decide.Decision.{Decision};
 
 use core_parts::state::SettlementParts;
@@ -17,7 +17,7 @@ use core_terms::params::OracleParams;
 use core_terms::units::{StrikeUsd, UnixTimestamp};
 use numbers::time::{after, later};
 
-#[derive(Clone, Copy)]
+#[derive(Debug, Clone, Copy, PartialEq, Eq)]
 pub enum SettleMethod {
     Window = 0,
     NextPrint = 1,
@@ -54,7 +54,7 @@ impl SettleMethod {
     }
 }
 
-#[derive(Clone, Copy)]
+#[derive(Debug, Clone, Copy, PartialEq, Eq)]
 pub enum Decision {
     Settle {
         method: SettleMethod,
@@ -67,9 +67,18 @@ pub enum Decision {
     },
 }
 
+impl Decision {
+    // Settle or Void.
+    pub fn is_final(self) -> bool
+        ensures { result ≡ final (answer_of self) }
+    {
+        !matches!(self, Decision::Wait { .. })
+    }
+}
+
 // Which of the two partial steps comes first: of old the chain's, by the members' vote the window's
 // where it has more prints, else the chain's (#109).
-#[derive(Clone, Copy)]
+#[derive(Debug, Clone, Copy, PartialEq, Eq)]
 pub enum Order {
     Old,
     Voted,
@@ -194,7 +203,7 @@ fn chain_first(links: u8, n: u16, order: Order) -> bool
     if n <= (links as u16) {
         return true;
     }
-    matches!(order, Order::Old)
+    order == Order::Old
 }
 
 // The steps from the hard deadline on, with n slots filled.
@@ -233,7 +242,8 @@ fn partial(
     void_from(p, hard, now)
 }
 
-// The decision at the time now on a series with the terms p that expires at expiry.
+// The decision at the time now on a series with the terms p that expires at expiry. Terms, state and
+// times are handed on one by one, as the source has them.
 fn cascade(
     p: OracleParams,
     s: SettlementParts,

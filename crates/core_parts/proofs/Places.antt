@@ -1,15 +1,15 @@
 -- `restore`'s test: the links' five places, tested one by one, and the tests in the code's order.
-use Prim.Native.Nat.{ℕ, zero, suc, ◌+◌, ◌-◌, ◌≤◌, ◌<◌, ◌^◌}
+use Prim.Native.Nat.{ℕ, zero, suc, ◌-◌, ◌≤◌, ◌<◌, ◌^◌}
 use mathlib.Core.Path.{◌≡◌, refl, sym, ap, ◌∙◌}
-use mathlib.Core.Bool.{Bool, true, false, not, ◌||◌, beq}
+use mathlib.Core.Bool.{Bool, true, false, not, ◌&&◌, ◌||◌, beq}
 use native.Mathlib.Omega.{arith}
-use native.Mathlib.Numerals.{add-one}
 use borrow.Author.Tests.{not-true, not-false, ltb-true, lt-ltb, eqb-true, eqb-false, ne_eqb}
 use lib.Arith.{lt_of_le-ne}
 use lib.Dec.{ltb, leb, eqb}
 use lib.ListN.{get_or, length, get_or-eq_default}
 use lib.IntN.{pos}
 use lib.Signed.{lt_z}
+use Rattle.std.specs.List.{range_with_len, list_all}
 use Rattle.rules.specs.Log.{front, all}
 use Rattle.rules.specs.Terms.{Terms, slots}
 use Rattle.rules.specs.Prints.{eq_z}
@@ -34,9 +34,17 @@ beq_true false = refl
 
 -- ---- a test of every place below a number
 
-pub all_more : (P : ℕ → Bool) (n : ℕ) → all_places P n ≡ true → P n ≡ true → all_places P (n + 1) ≡ true
+-- the five places, as a range yields them
+pub range_places : (P : ℕ → Bool) → list_all P (range_with_len 0 5) ≡ all_places P 5
 unfolding all_places
-all_more P n a b = rw (add-one n, a, b)
+range_places P = go (P 0) (P 1) (P 2) (P 3) (P 4)
+  where
+    go : (a b c d e : Bool) → a && (b && (c && (d && (e && true)))) ≡ (((a && b) && c) && d) && e
+    go true true true true e = and_true e
+    go true true true false e = refl
+    go true true false d e = refl
+    go true false c d e = refl
+    go false b c d e = refl
 
 all_at : (P : ℕ → Bool) (n : ℕ) → all_places P n ≡ true → (i : ℕ) → i < n → P i ≡ true
 unfolding all_places
@@ -56,9 +64,6 @@ all_of P (suc n) h = rw (all_of P n (λ i l. h i (omega arith)), h n (omega arit
 refuted : (a b : Bool) → (a ≡ true → b ≡ true) → b ≡ false → a ≡ false
 refuted true b f e = sym (f refl) ∙ e
 refuted false b f e = refl
-
-pub all_fails : (P : ℕ → Bool) (n i : ℕ) → i < n → P i ≡ false → all_places P n ≡ false
-all_fails P n i h e = refuted (all_places P n) (P i) (λ a. all_at P n a i h) e
 
 -- ---- the places are the rules' tests
 

@@ -13,7 +13,7 @@ use core_terms::params::{MAX_NEXT_PRINTS, MAX_SLOTS, OracleParams};
 
 // The candidates of one series in their stored form, untrusted until `in_range` is asked: the links'
 // times and prices are two rows, and where there is no link or no fallback there are zeros.
-#[derive(Clone, Copy, PartialEq)]
+#[derive(Debug, Clone, Copy, PartialEq, Eq)]
 pub struct SettlementParts {
     pub sample_sum: u128,
     pub filled_slots: u32,
@@ -73,15 +73,11 @@ fn place_ok(times: [i64; 5], prices: [u64; 5], len: u8, i: usize) -> bool
 fn places_ok(times: [i64; 5], prices: [u64; 5], len: u8) -> bool
     ensures { result ≡ all_places (link_place times prices len) 5 }
 {
-    for i in 0..5 {
-        if !place_ok(times, prices, len, i) {
-            return false;
-        }
-    }
-    true
+    (0..5).all(|i| place_ok(times, prices, len, i))
 }
 
-// The fallback's time is zero exactly when its price is.
+// The fallback's time is zero exactly when its price is. With `sum_ok` it has a line in common, of
+// other types: one function for both would be longer.
 fn fallback_ok(time: i64, price: u64) -> bool
     ensures { result ≡ beq (eq_z time (pos 0)) (eqb price 0) }
 {
@@ -107,9 +103,9 @@ impl SettlementParts {
         }
     }
 
-    // `restore`'s test by the number of slots and k, which is all that it asks of the terms. A caller
-    // that has divided already hands its number on. Inlined always, as are the two after it: else each
-    // caller copies the state for them, 30 to 130 instructions a command.
+    // `restore`'s test by the number of slots and k, which is all that it asks of the terms. Inlined
+    // always, as are the two after it: else each caller copies the state for them, 30 to 130
+    // instructions a command.
     #[inline(always)]
     pub fn fits(self, slot_count: u32, k_next_print: u8) -> bool
         ensures { (t : Terms) → slots t ≡ slot_count → t.k ≡ k_next_print → result ≡ good_state t (stored_of self) }
@@ -132,12 +128,10 @@ impl SettlementParts {
         if !fallback_ok(self.fallback_time, self.fallback_price) {
             return false;
         }
-        let times = self.next_times;
-        let prices = self.next_prices;
-        places_ok(times, prices, len)
+        places_ok(self.next_times, self.next_prices, len)
     }
 
-    // `restore`'s test: every call that takes a state asks this, after the terms.
+    // `restore`'s test, of terms that are in range.
     #[inline(always)]
     pub fn in_range(self, params: OracleParams) -> bool
         ensures { result ≡ good_state (terms_of params) (stored_of self) }

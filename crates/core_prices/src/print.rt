@@ -5,7 +5,7 @@ ghost use Rattle.core_prices.specs.Prints.{print_of, print_at, print_result_of, 
 
 use core_terms::error::CoreError;
 
-#[derive(Clone, Copy)]
+#[derive(Debug, Clone, Copy, PartialEq, Eq)]
 pub struct Print {
     pub price: u64,
     pub publish_time: i64,
@@ -13,7 +13,7 @@ pub struct Print {
 }
 
 // What acceptance is given.
-#[derive(Clone, Copy)]
+#[derive(Debug, Clone, Copy, PartialEq, Eq)]
 pub struct Quote {
     pub price: i64,
     pub conf: u64,
@@ -23,7 +23,7 @@ pub struct Quote {
 }
 
 impl Print {
-    // Whether the price and the times are good: every call that takes a print asks this.
+    // Whether the price and the times are good: what making a print and adding one ask.
     pub fn in_range(self) -> bool
         ensures { result ≡ good_print (print_of self) }
     {
@@ -37,6 +37,7 @@ impl Print {
         prev <= self.publish_time
     }
 
+    // The source's constructor: it takes the fields one by one.
     pub fn try_new(
         price: u64,
         publish_time: i64,
@@ -81,7 +82,8 @@ fn too_wide(price: u64, bps: u16, conf: u64) -> bool
     (price as u128) * (bps as u128) < (conf as u128) * 10000
 }
 
-// The acceptance of a print on a series with the exponent expo and the bound max_conf_bps.
+// The acceptance of a print on a series with the exponent expo and the bound max_conf_bps. The quote
+// is no one parameter: the source takes its numbers one by one, and the port keeps that.
 pub fn accept_print(
     price: i64,
     conf: u64,

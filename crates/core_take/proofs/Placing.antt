@@ -42,9 +42,9 @@ ok_if : {A : Type 0} (b : Bool) (x y : A) → ok x ≡ (if b then ok y else refu
 ok_if true x y e = (refl, cc)
 ok_if false x y e = let n : ◌≡◌ {A = ℕ} 0 1 = cc in absurd (omega arith)
 
-refused_if : {A : Type 0} (b : Bool) (n : ℕ) (y : A) → refused n ≡ (if b then ok y else refused 0) → b ≡ false
+refused_if : {A : Type 0} (b : Bool) (n : ℕ) (y : A) → refused n ≡ (if b then ok y else refused 0) → (b ≡ false) × (n ≡ 0)
 refused_if true n y e = let n : ◌≡◌ {A = ℕ} 0 1 = cc in absurd (omega arith)
-refused_if false n y e = refl
+refused_if false n y e = (refl, cc)
 
 some_if : {A : Type 0} (b : Bool) (x y : A) → Some x ≡ (if b then Some y else None) → (b ≡ true) × (x ≡ y)
 some_if true x y e = (refl, cc)
@@ -59,7 +59,7 @@ module _ (t : Terms) (E : ℤ) (c : Candidates) (p : Print) where
   unfolding slot_use
   slot_told u e = ok_if (fits (E -ℤ pos t.window)) u (slot_for t E c p) e
 
-  pub slot-refused : (n : ℕ) → refused n ≡ slot_use t E c p → fits (E -ℤ pos t.window) ≡ false
+  pub slot-refused : (n : ℕ) → refused n ≡ slot_use t E c p → (fits (E -ℤ pos t.window) ≡ false) × (n ≡ 0)
   unfolding slot_use
   slot-refused n e = refused_if (fits (E -ℤ pos t.window)) n (slot_for t E c p) e
 
@@ -67,7 +67,7 @@ module _ (t : Terms) (E : ℤ) (c : Candidates) (p : Print) where
   unfolding fallback_use
   fallback_told b e = ok_if (fits (E -ℤ pos t.lookback)) b (is_fallback t E c p) e
 
-  pub fallback-refused : (n : ℕ) → refused n ≡ fallback_use t E c p → fits (E -ℤ pos t.lookback) ≡ false
+  pub fallback-refused : (n : ℕ) → refused n ≡ fallback_use t E c p → (fits (E -ℤ pos t.lookback) ≡ false) × (n ≡ 0)
   unfolding fallback_use
   fallback-refused n e = refused_if (fits (E -ℤ pos t.lookback)) n (is_fallback t E c p) e
 

@@ -8,7 +8,7 @@ ghost use Rattle.core_terms.specs.Errors.{result_of};
 ghost use Rattle.core_terms.specs.Params.{terms_of};
 ghost use Rattle.core_prices.specs.Prints.{print_of, quote_of};
 ghost use Rattle.core_parts.specs.States.{stored_of};
-ghost use Rattle.core_take.specs.Uses.{used_of};
+ghost use Rattle.core_take.specs.Uses.{used_of, IsUse};
 ghost use Rattle.core_take.specs.Placing.{slot_use, link_use, fallback_use, total_after, fillable, with_slot, linkable, with_link, with_fallback};
 
 use core_parts::state::SettlementParts;
@@ -19,67 +19,49 @@ use core_terms::units::UnixTimestamp;
 pub use core_uses::uses::PrintUse;
 use core_uses::uses::{fallback_in, first_link, later_link, slot_in};
 
-// The answer, and beside it the state, which holds arrays.
-#[derive(Clone, Copy)]
+// The answer, and beside it the state, as 01 has it: a refusal gives it back as it was.
+#[derive(Debug, Clone, Copy, PartialEq, Eq)]
 pub struct Added<S> {
     pub result: Result<PrintUse, CoreError>,
     pub state: S,
 }
 
-// Canonical slot of the print, if it is one and the slot is empty.
-fn try_slot(
-    p: OracleParams,
-    s: SettlementParts,
+// A print at a series whose terms are in range.
+#[derive(Clone, Copy)]
+struct Posted {
+    params: OracleParams,
     expiry: i64,
-    x: Print,
-) -> Result<Option<u8>, CoreError>
-    requires { good_terms (terms_of p) ≡ true }
-    ensures { result_of result ≡ slot_use (terms_of p) expiry (candidates_of (stored_of s)) (print_of x) }
+    print: Print,
+    ghost terms_in_range: { good_terms (terms_of params) ≡ true },
+}
+
+// Canonical slot of the print, if it is one and the slot is empty.
+fn try_slot(x: Posted, s: SettlementParts) -> Result<Option<u8>, CoreError>
+    ensures { result_of result ≡ slot_use (terms_of x.params) x.expiry (candidates_of (stored_of s)) (print_of x.print) }
 {
-    slot_in(
-        expiry,
-        p.window_s,
-        p.slot_s,
-        p.slot_tolerance_s,
-        s.filled_slots,
-        x.publish_time,
-        x.prev_publish_time,
-    )
+    slot_in(x.params, x.expiry, s.filled_slots, x.print)
 }
 
 // Next link of the canonical chain, if the print is it.
-fn try_next_print(p: OracleParams, s: SettlementParts, expiry: i64, x: Print) -> Option<u8>
-    requires { good_terms (terms_of p) ≡ true }
-    ensures { result ≡ link_use (terms_of p) expiry (candidates_of (stored_of s)) (print_of x) }
+fn try_next_print(x: Posted, s: SettlementParts) -> Option<u8>
+    ensures { result ≡ link_use (terms_of x.params) x.expiry (candidates_of (stored_of s)) (print_of x.print) }
 {
     let len = s.next_len;
-    if p.k_next_print <= len {
+    if x.params.k_next_print <= len {
         return None;
     }
     if len == 0 {
-        return first_link(expiry, x.publish_time, x.prev_publish_time);
+        return first_link(x.expiry, x.print);
     }
     let end = (len - 1) as usize;
-    let last = s.next_times[end];
-    later_link(len, last, x.publish_time, x.prev_publish_time)
+    later_link(len, s.next_times[end], x.print)
 }
 
 // Whether the print replaces the fallback.
-fn try_fallback(
-    p: OracleParams,
-    s: SettlementParts,
-    expiry: i64,
-    x: Print,
-) -> Result<bool, CoreError>
-    ensures { result_of result ≡ fallback_use (terms_of p) expiry (candidates_of (stored_of s)) (print_of x) }
+fn try_fallback(x: Posted, s: SettlementParts) -> Result<bool, CoreError>
+    ensures { result_of result ≡ fallback_use (terms_of x.params) x.expiry (candidates_of (stored_of s)) (print_of x.print) }
 {
-    fallback_in(
-        expiry,
-        p.fallback_lookback_s,
-        s.fallback_time,
-        x.publish_time,
-        x.prev_publish_time,
-    )
+    fallback_in(x.params, x.expiry, s.fallback_time, x.print)
 }
 
 // The sum of the slots' prices, with the price of the slot that is filled, where it fits.
@@ -162,50 +144,41 @@ fn placed(s: SettlementParts, u: PrintUse, sum: u128, x: Print, now: i64) -> Set
     with_fallback(linked, u.fallback, x, now)
 }
 
-// Stores the print as every candidate that it qualifies for; a refused one changes nothing.
-fn add(
-    p: OracleParams,
-    s: SettlementParts,
-    expiry: i64,
-    x: Print,
-    now: i64,
-) -> Added<SettlementParts>
-    requires { (good_terms (terms_of p) ≡ true) × (good_state (terms_of p) (stored_of s) ≡ true) }
-    ensures { (used_of result.result ≡ print_answer (terms_of p) expiry (candidates_of (stored_of s)) (print_of x)) × (stored_of result.state ≡ (if is_used (print_answer (terms_of p) expiry (candidates_of (stored_of s)) (print_of x)) then parts_of (place (terms_of p) expiry (candidates_of (stored_of s)) (print_of x) now) else stored_of s)) }
+// What the print is used for, and the sum of the slots' prices with it: 0, 14.
+fn use_of(x: Posted, s: SettlementParts) -> Result<(PrintUse, u128), CoreError>
+    ensures { IsUse (terms_of x.params) x.expiry (stored_of s) (print_of x.print) result }
 {
-    let Ok(slot) = try_slot(p, s, expiry, x) else {
-        return Added {
-            result: Err(CoreError::Overflow),
-            state: s,
-        };
+    let slot = try_slot(x, s)?;
+    let fallback = try_fallback(x, s)?;
+    let Some(sum) = sum_after(s, slot, x.print.price) else {
+        return Err(CoreError::Overflow);
     };
-    let Ok(fallback) = try_fallback(p, s, expiry, x) else {
-        return Added {
-            result: Err(CoreError::Overflow),
-            state: s,
-        };
-    };
-    let Some(sum) = sum_after(s, slot, x.price) else {
-        return Added {
-            result: Err(CoreError::Overflow),
-            state: s,
-        };
-    };
-    let next_print = try_next_print(p, s, expiry, x);
+    let next_print = try_next_print(x, s);
     let found = PrintUse {
         slot,
         next_print,
         fallback,
     };
     if !found.is_used() {
-        return Added {
-            result: Err(CoreError::PrintNotUsable),
-            state: s,
-        };
+        return Err(CoreError::PrintNotUsable);
     }
-    Added {
-        result: Ok(found),
-        state: placed(s, found, sum, x, now),
+    Ok((found, sum))
+}
+
+// Stores the print as every candidate that it qualifies for; a refused one changes nothing.
+fn add(x: Posted, s: SettlementParts, now: i64) -> Added<SettlementParts>
+    requires { good_state (terms_of x.params) (stored_of s) ≡ true }
+    ensures { (used_of result.result ≡ print_answer (terms_of x.params) x.expiry (candidates_of (stored_of s)) (print_of x.print)) × (stored_of result.state ≡ (if is_used (print_answer (terms_of x.params) x.expiry (candidates_of (stored_of s)) (print_of x.print)) then parts_of (place (terms_of x.params) x.expiry (candidates_of (stored_of s)) (print_of x.print) now) else stored_of s)) }
+{
+    match use_of(x, s) {
+        Ok((found, sum)) => Added {
+            result: Ok(found),
+            state: placed(s, found, sum, x.print, now),
+        },
+        Err(e) => Added {
+            result: Err(e),
+            state: s,
+        },
     }
 }
 
@@ -232,7 +205,12 @@ pub fn add_print(
             state,
         };
     }
-    add(params, state, expiry.get(), print, now)
+    let posted = Posted {
+        params,
+        expiry: expiry.get(),
+        print,
+    };
+    add(posted, state, now)
 }
 
 // An offered print: 12 for the terms, 11 for the state, then its acceptance and the core's
@@ -263,9 +241,14 @@ pub fn offer(
         max_conf_bps,
     );
     let Ok(print) = accepted else {
-        // An accepted print is not asked for its refusal.
+        // `let .. else` is 01's form for acceptance. What is kept is the refusal, under another type.
         let result = accepted.and(Err(CoreError::InvalidPrint));
         return Added { result, state };
     };
-    add(params, state, expiry.get(), print, now)
+    let posted = Posted {
+        params,
+        expiry: expiry.get(),
+        print,
+    };
+    add(posted, state, now)
 }

@@ -17,7 +17,7 @@ pub const MIN_EXPO: i8 = -12;
 
 pub const MAX_EXPO: i8 = 0;
 
-#[derive(Clone, Copy)]
+#[derive(Debug, Clone, Copy, PartialEq, Eq)]
 pub struct OracleParams {
     pub window_s: u32,
     pub slot_s: u32,
@@ -92,7 +92,7 @@ fn good_delays(p: OracleParams) -> bool
 }
 
 impl OracleParams {
-    // Whether the terms are in range: every call that takes terms asks this first.
+    // Whether the terms are in range: what opening, restoring, taking a print and deciding ask first.
     pub fn in_range(self) -> bool
         ensures { result ≡ good_terms (terms_of self) }
     {
@@ -105,6 +105,7 @@ impl OracleParams {
         good_delays(self)
     }
 
+    // The source's constructor: it takes the fields one by one.
     pub fn try_new(
         window_s: u32,
         slot_s: u32,

@@ -2,7 +2,7 @@
 ghost use Rattle.std.specs.Prelude.{◌≡◌};
 
 // A price in USDC atoms per troy ounce.
-#[derive(Clone, Copy)]
+#[derive(Debug, Clone, Copy, PartialEq, Eq)]
 pub struct StrikeUsd(u64);
 
 impl StrikeUsd {
@@ -20,7 +20,7 @@ impl StrikeUsd {
 }
 
 // Seconds since the Unix epoch.
-#[derive(Clone, Copy)]
+#[derive(Debug, Clone, Copy, PartialEq, Eq)]
 pub struct UnixTimestamp(i64);
 
 impl UnixTimestamp {

@@ -21,8 +21,8 @@ pub(crate) fn terms(b: &[u8]) -> Result<OracleParams, CoreError> {
     )
 }
 
-// The five numbers that stand side by side from an offset on. Not by `map`, which asks that five fit
-// into memory: of any T that is not known.
+// The five numbers that stand side by side from an offset on. Not by `map`: it asks that five of T fit
+// into memory, which is not known of every T.
 fn links<T: LittleEndian<8>>(b: &[u8], at: usize) -> [T; 5]
     requires { at ≤ 60 }
 {

@@ -11,10 +11,10 @@ use std::io;
 use std::io::Write;
 use tally::Tally;
 
-// What is said of a fault differs, and so does the rest: a shared main would need a method of the
-// trial for each line.
+// What is said of a fault is not what `book_trials` says, nor is the rest: a shared main would need a method
+// of the trial for each line.
 fn main(rt: HostRuntime) -> io::Result<()> {
-    let mut tally = Tally::new();
+    let mut tally = Tally::default();
     let replayed = samples::replay::replay(&mut tally, &mut rt.reader());
     let mut out = io::writer(&rt);
     if let Err(Fault::NotASample) = replayed {

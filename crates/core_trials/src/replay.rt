@@ -1,5 +1,6 @@
 // One call of the core on what a record gives, compared with every value that the record answers.
-// The bytes of a record are those behind the number of its call.
+// Each takes its record whole, the bytes behind the number of the call: trials/README.md lists how
+// many they are.
 ghost use Rattle.std.specs.Prelude.{◌≤◌, length};
 
 use crate::given::{parts, terms};
@@ -61,7 +62,7 @@ pub(crate) fn restore(b: &[u8; 309]) -> bool {
         return false;
     };
     let r = SettlementState::restore(p, parts(&b[26..]));
-    (u8::read(b, 167) == code(r.result)) & (r.state.parts() == parts(&b[168..]))
+    u8::read(b, 167) == code(r.result) && r.state.parts() == parts(&b[168..])
 }
 
 // The terms and the state that a record starts with, if the state can be restored.
@@ -104,7 +105,7 @@ pub(crate) fn add_print(b: &[u8; 352]) -> bool {
         x,
         i64::read(b, 199),
     );
-    is_answered(&b[207..211], r.result) & (r.state.parts() == parts(&b[211..]))
+    is_answered(&b[207..211], r.result) && r.state.parts() == parts(&b[211..])
 }
 
 // ---- the decision
@@ -119,30 +120,35 @@ struct Outcome {
     until: i64,
 }
 
-fn outcome_of(d: Decision) -> Outcome {
-    match d {
-        Decision::Settle {
-            method,
-            price,
-            samples,
-        } => Outcome {
-            code: 255,
-            number: method.number(),
-            price: price.get(),
-            samples,
-            ..Outcome::default()
-        },
-        Decision::Void => Outcome {
-            code: 255,
-            number: SettleMethod::Void.number(),
-            ..Outcome::default()
-        },
-        Decision::Wait { until } => Outcome {
-            code: 255,
-            number: 6,
-            until,
-            ..Outcome::default()
-        },
+// A Wait has no method. A sample has a 6 in the place of its number.
+const WAIT: u8 = 6;
+
+impl From<Decision> for Outcome {
+    fn from(d: Decision) -> Outcome {
+        match d {
+            Decision::Settle {
+                method,
+                price,
+                samples,
+            } => Outcome {
+                code: 255,
+                number: method.number(),
+                price: price.get(),
+                samples,
+                ..Outcome::default()
+            },
+            Decision::Void => Outcome {
+                code: 255,
+                number: SettleMethod::Void.number(),
+                ..Outcome::default()
+            },
+            Decision::Wait { until } => Outcome {
+                code: 255,
+                number: WAIT,
+                until,
+                ..Outcome::default()
+            },
+        }
     }
 }
 
@@ -159,7 +165,7 @@ fn recorded(b: &[u8]) -> Outcome {
 
 fn is_decided(b: &[u8], r: Result<Decision, CoreError>) -> bool {
     let outcome = match r {
-        Ok(d) => outcome_of(d),
+        Ok(d) => d.into(),
         Err(e) => Outcome {
             code: e.number(),
             ..Outcome::default()
@@ -176,7 +182,7 @@ pub(crate) fn decide(b: &[u8; 223]) -> bool {
     let expiry = UnixTimestamp::new(i64::read(b, 167));
     let now = i64::read(b, 175);
     is_decided(&b[183..], s.decide_by(p, expiry, now, Order::Old))
-        & is_decided(&b[203..], s.decide(p, expiry, now))
+        && is_decided(&b[203..], s.decide(p, expiry, now))
 }
 
 // ---- constructors

@@ -7,16 +7,22 @@ use samples::replay::{Trial, bytes};
 use std::io;
 use std::io::{ErrorKind, Read, Write};
 
-#[derive(Clone, Copy)]
+// What a record may be of, by the number of the call from 1.
+const CALLS: [&str; 8] = [
+    "mean",
+    "accept",
+    "restore",
+    "add_print",
+    "decide",
+    "params",
+    "print",
+    "method",
+];
+
+#[derive(Debug, Clone, Copy, PartialEq, Eq, Default)]
 pub(crate) struct Tally {
-    mean: Compared,
-    accept: Compared,
-    restore: Compared,
-    add_print: Compared,
-    decide: Compared,
-    params: Compared,
-    print: Compared,
-    method: Compared,
+    // The answers of each call, by its place in CALLS.
+    answers: [Compared; 8],
     // The number of the record at hand, from 1.
     pub(crate) number: u32,
     // The first record that differs.
@@ -35,17 +41,17 @@ impl Trial for Tally {
         self.number = n;
         let [call] = bytes::<1, R>(reader)?;
         let is_same = match call {
-            1 => self.mean.count(replay::mean(&bytes(reader)?)),
-            2 => self.accept.count(replay::accept(&bytes(reader)?)),
-            3 => self.restore.count(replay::restore(&bytes(reader)?)),
-            4 => self.add_print.count(replay::add_print(&bytes(reader)?)),
-            5 => self.decide.count(replay::decide(&bytes(reader)?)),
-            6 => self.params.count(replay::params(&bytes(reader)?)),
-            7 => self.print.count(replay::print(&bytes(reader)?)),
-            8 => self.method.count(replay::method(&bytes(reader)?)),
+            1 => replay::mean(&bytes(reader)?),
+            2 => replay::accept(&bytes(reader)?),
+            3 => replay::restore(&bytes(reader)?),
+            4 => replay::add_print(&bytes(reader)?),
+            5 => replay::decide(&bytes(reader)?),
+            6 => replay::params(&bytes(reader)?),
+            7 => replay::print(&bytes(reader)?),
+            8 => replay::method(&bytes(reader)?),
             _ => return Err(ErrorKind::InvalidData.into()),
         };
-        if !is_same {
+        if !self.answers[call as usize - 1].count(is_same) {
             self.first = self.first.or(Some(n));
         }
         Ok(())
@@ -53,30 +59,10 @@ impl Trial for Tally {
 }
 
 impl Tally {
-    pub(crate) fn new() -> Tally {
-        Tally {
-            mean: Compared::new(),
-            accept: Compared::new(),
-            restore: Compared::new(),
-            add_print: Compared::new(),
-            decide: Compared::new(),
-            params: Compared::new(),
-            print: Compared::new(),
-            method: Compared::new(),
-            number: 0,
-            first: None,
-        }
-    }
-
     pub(crate) fn print<W: Write>(&self, out: &mut W) -> io::Result<()> {
-        writeln!(out, "mean {}", self.mean)?;
-        writeln!(out, "accept {}", self.accept)?;
-        writeln!(out, "restore {}", self.restore)?;
-        writeln!(out, "add_print {}", self.add_print)?;
-        writeln!(out, "decide {}", self.decide)?;
-        writeln!(out, "params {}", self.params)?;
-        writeln!(out, "print {}", self.print)?;
-        writeln!(out, "method {}", self.method)?;
+        for (call, answers) in CALLS.iter().zip(&self.answers) {
+            writeln!(out, "{call} {answers}")?;
+        }
         if let Some(first) = self.first {
             writeln!(out, "the first that differs is record {first}")?;
         }

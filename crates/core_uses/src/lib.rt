@@ -1,5 +1,5 @@
-// The uses of a print by its times: slot, link, fallback. Arithmetic on numbers, at all of them; any
-// crate may call it.
+// The uses of a print by its times: slot, link, fallback. Arithmetic, whatever the terms and the
+// print are; any crate may call it.
 #![tactic(auto)]
 
 pub mod uses;

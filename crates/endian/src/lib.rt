@@ -1,5 +1,5 @@
 // Numbers in bytes: little-endian, signed ones in two's complement.
-// Every function is total: any crate may call it.
+// What is public is total: any crate may call it.
 #![tactic(auto)]
 
 ghost use Rattle.std.specs.Prelude.{◌≡◌, ℕ, List, length, drop, ◌<◌, ◌≤◌, refl};

@@ -36,6 +36,7 @@ pub extern "C" fn lanternfold_to_atoms(
     }
 }
 
+// The number of a refusal, or 255.
 fn refusal(r: Result<Print, CoreError>) -> u8
     ensures { result ≡ code_of (print_result_of r) }
 {
@@ -45,7 +46,8 @@ fn refusal(r: Result<Print, CoreError>) -> u8
     }
 }
 
-// The acceptance of a print, whose price is stored in amount.
+// The acceptance of a print, whose price is stored in amount. It is split by `let .. else`, which 01
+// asks for here and in `core_take`.
 #[unsafe(no_mangle)]
 pub extern "C" fn lanternfold_accept_print(
     price: i64,

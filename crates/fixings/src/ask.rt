@@ -20,8 +20,8 @@ pub fn ask(book: &[u8], series: u8, now: i64) -> Answer
 {
     match status_at(book, series) {
         Ok(Status::Empty) => Answer::Refused(Refusal::SeriesEmpty),
-        Ok(Status::Untested) => Answer::of_result(decide_in(look(book, series), now)),
-        Ok(Status::Fixed) => Answer::of_result(read_outcome(look(book, series))),
+        Ok(Status::Untested) => Answer::from(decide_in(look(book, series), now)),
+        Ok(Status::Fixed) => Answer::from(read_outcome(look(book, series))),
         Err(r) => Answer::Refused(r),
     }
 }

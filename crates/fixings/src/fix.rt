@@ -1,8 +1,6 @@
 // Fixing a series.
 ghost use Rattle.std.specs.Prelude.{◌≡◌};
-ghost use Rattle.rules.specs.Answers.{final};
 ghost use Rattle.rules.specs.Series.{Fix};
-ghost use Rattle.core_decide.specs.Decisions as D;
 ghost use Rattle.answers.specs.Answers.{answer_of};
 ghost use Rattle.answers.specs.Commands.{Untested, answer_at, after_at};
 
@@ -10,15 +8,7 @@ use crate::store::store_fixed;
 use answers::answer::{Answer, in_use};
 use book::look::look;
 use book::refusal::Refusal;
-use core_decide::decide::Decision;
 use record_test::decide::decide_in;
-
-// Settle or Void.
-fn is_final(d: Decision) -> bool
-    ensures { result ≡ final (D.answer_of d) }
-{
-    !matches!(d, Decision::Wait { .. })
-}
 
 // A fix of an open series, whose terms and state the core tests: 11, 0, 39. The decision is made
 // before it is refused as a Wait.
@@ -28,7 +18,7 @@ fn fix_open(book: &mut [u8], series: u8, now: i64) -> Answer
     ensures { (answer_of result ≡ answer_at book.old series (Fix now)) × (book.new ≡ after_at book.old series (Fix now)) }
 {
     match decide_in(look(&book[..], series), now) {
-        Ok(d) if is_final(d) => {
+        Ok(d) if d.is_final() => {
             store_fixed(book, series, d, now);
             Answer::from(d)
         }

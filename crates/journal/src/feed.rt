@@ -1,5 +1,5 @@
 // A journal, whole or in parts, given to a book.
-ghost use Rattle.std.specs.Prelude.{◌+◌, ◌≤◌, ◌≡◌, true, length};
+ghost use Rattle.std.specs.Prelude.{◌≤◌, ◌≡◌, true, length};
 ghost use Rattle.std.proofs.lemmas.List.Edits.{sets};
 ghost use Rattle.rules.specs.Book.{book_after};
 ghost use Rattle.rules.specs.Journal.{line_to};
@@ -13,24 +13,24 @@ use lines::line::{LINE_MAX, write_line};
 
 // How many bytes of the part were taken and how many of lines written, and whether an entry of one
 // byte was given, after which the journal has no other.
-#[derive(Clone, Copy)]
+#[derive(Debug, Clone, Copy, PartialEq, Eq)]
 pub struct Fed {
     pub taken: usize,
     pub written: usize,
     pub ended: bool,
 }
 
-// Gives an entry to the book, and writes its line from the index at on. Answers where it ends.
-fn give(book: &mut [u8], entry: &[u8], out: &mut [u8], at: usize) -> usize
-    requires { at + line_max ≤ length out.old }
-    ensures { (result ≡ at + length (line_to book.old entry.now))
+// Gives an entry to the book, and writes its line to the front of out. Answers how long it is.
+fn give(book: &mut [u8], entry: &[u8], out: &mut [u8]) -> usize
+    requires { line_max ≤ length out.old }
+    ensures { (result ≡ length (line_to book.old entry.now))
         × (book.new ≡ book_after book.old entry.now)
-        × (out.new ≡ sets out.old at (line_to book.old entry.now))
+        × (out.new ≡ sets out.old 0 (line_to book.old entry.now))
         × (length (line_to book.old entry.now) ≤ line_max) }
 {
     let answer = apply(book, entry);
     let series = u8::read(entry, 1);
-    at + write_line(&mut out[at..], series, answer).unwrap()
+    write_line(out, series, answer).unwrap()
 }
 
 // Gives the entries of a journal's part to the book, as far as there is room for their lines, which
@@ -52,8 +52,9 @@ pub fn feed(book: &mut [u8], part: &[u8], last: bool, out: &mut [u8]) -> Fed
             break;
         };
         let end = fed.taken + width;
-        fed.written = give(book, &part[fed.taken..end], out, fed.written);
+        fed.written += give(book, &part[fed.taken..end], &mut out[fed.written..]);
         fed.taken = end;
+        // No command has one byte.
         fed.ended = width == 1;
     }
     fed

@@ -3,21 +3,20 @@ ghost use Rattle.std.specs.Prelude.{◌≡◌};
 ghost use Rattle.rules.specs.Entries as E;
 ghost use Rattle.journal.specs.Split.{first_width};
 
+use commands::kind::Kind;
+
+// How many bytes an entry has that begins with this byte. One that says no command stands alone: the
+// 1 is the rules' own, no command has it.
+#[inline(always)]
+#[tactic(auto, using(commands::proofs::Entries::unknown_width))]
 fn width(byte: u8) -> usize
     ensures { result ≡ E.width byte }
 {
-    match byte {
-        0x01 => 38,
-        0x02 => 46,
-        0x03 => 10,
-        0x04 => 10,
-        0x06 => 11,
-        _ => 1,
-    }
+    Kind::try_from(byte).map_or(1, |kind| kind.width())
 }
 
-// The bytes of the first entry of a journal's part, if it has one. Only the last part has a short
-// tail.
+// How many bytes the first entry of a journal's part has, if it has one. What is too short for a command
+// is an entry in the last part, and waits for the next in any other.
 #[tactic(auto, using(crate::proofs::Entries::first_none, crate::proofs::Entries::first_whole, crate::proofs::Entries::first_tail))]
 pub fn first_width(part: &[u8], last: bool) -> Option<usize>
     ensures { result ≡ first_width last part.now }

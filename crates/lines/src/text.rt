@@ -1,4 +1,5 @@
 // A line as it is put together, from its end to its front, since a number gives its last digit first.
+// No `Display`: of what `write!` writes, clauses know the bytes only of a `String`, which needs a heap.
 ghost use Rattle.std.specs.Prelude.{◌+◌, ◌≤◌, ◌≡◌, ◌++◌, length};
 ghost use Rattle.rules.specs.Lines.{ascii, decimal, signed_decimal, index};
 ghost use Rattle.lines.specs.Lines.{line_max};

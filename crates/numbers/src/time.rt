@@ -1,4 +1,5 @@
-// Signed times: the comparison comes before the operation, so that nothing overflows.
+// Signed times. The comparison comes before the operation, so that nothing overflows: the form of 01,
+// in place of `checked_add` and `checked_sub`.
 ghost use Rattle.std.specs.Prelude.{◌≡◌, pos, ◌+ℤ◌, ◌-ℤ◌};
 ghost use Rattle.rules.specs.Decision.{max_z};
 ghost use Rattle.numbers.specs.Times.{time_of, gap_of};

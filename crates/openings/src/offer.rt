@@ -10,32 +10,26 @@ use answers::answer::{Answer, in_use};
 use book::look::look;
 use book::refusal::Refusal;
 use core_prices::print::Quote;
-use record_read::contents::read_contents;
+use record_read::contents::{Contents, read_contents};
 
 // An offer to an open series, whose terms and state the core tests.
 fn offer_open(book: &mut [u8], series: u8, quote: Quote, now: i64) -> Answer
     requires { Untested book.old series }
     ensures { (answer_of result ≡ answer_at book.old series (Offer (quote_of quote) now)) × (book.new ≡ after_at book.old series (Offer (quote_of quote) now)) }
 {
-    let c = read_contents(look(&book[..], series));
-    let params = c.params;
-    let expiry = c.expiry;
-    let max_conf_bps = c.max_conf_bps;
-    let added = core_take::take::offer(c.state, params, expiry, max_conf_bps, quote, now);
+    let Contents { opening, state } = read_contents(look(&book[..], series));
+    let added = core_take::take::offer(
+        state,
+        opening.params,
+        opening.expiry,
+        opening.max_conf_bps,
+        quote,
+        now,
+    );
     match added.result {
         Ok(u) => {
-            let next = added.state;
             let price = quote.price.cast_unsigned();
-            store_open(
-                book,
-                series,
-                params,
-                max_conf_bps,
-                expiry,
-                next,
-                u.slot,
-                price,
-            );
+            store_open(book, series, opening, added.state, u.slot, price);
             Answer::Used(u)
         }
         Err(e) => Answer::Refused(Refusal::from(e)),

@@ -1,9 +1,10 @@
 // Opening a series.
 ghost use Rattle.std.specs.Prelude.{◌≡◌};
 ghost use Rattle.rules.specs.Answers.{Refused};
-ghost use Rattle.rules.specs.Series.{Opening, Open};
+ghost use Rattle.rules.specs.Series.{Open};
+ghost use Rattle.rules.specs.Series as S;
 ghost use Rattle.book.specs.Refusals.{refusal_number};
-ghost use Rattle.record_read.specs.Records.{opening_with};
+ghost use Rattle.record_read.specs.Records.{opening_of};
 ghost use Rattle.answers.specs.Answers.{answer_of};
 ghost use Rattle.answers.specs.Commands.{Untested, answer_at, after_at};
 
@@ -12,48 +13,31 @@ use answers::answer::Answer;
 use book::look::look;
 use book::refusal::Refusal;
 use core_parts::state::SettlementParts;
-use core_terms::params::OracleParams;
-use core_terms::units::UnixTimestamp;
-use record_read::contents::read_contents;
+use record_read::contents::{Contents, Opening, read_contents};
 use record_test::status::{Status, status_at};
 
 // The refusal on an open series, whose terms and state are still to be tested: 11, then 36.
 fn used(book: &[u8], series: u8) -> Refusal
     requires { Untested book.now series }
-    ensures { ((o : Opening) → Refused (refusal_number result) ≡ answer_at book.now series (Open o)) × ((o : Opening) → book.now ≡ after_at book.now series (Open o)) }
+    ensures { ((o : S.Opening) → Refused (refusal_number result) ≡ answer_at book.now series (Open o)) × ((o : S.Opening) → book.now ≡ after_at book.now series (Open o)) }
 {
-    let c = read_contents(look(book, series));
-    match c.state.check(c.params) {
+    let Contents { opening, state } = read_contents(look(book, series));
+    match state.check(opening.params) {
         Ok(()) => Refusal::SeriesUsed,
         Err(e) => Refusal::from(e),
     }
 }
 
 // Opens a series: 35, 34, 11, then 36, 12.
-pub fn open(
-    book: &mut [u8],
-    series: u8,
-    params: OracleParams,
-    max_conf_bps: u16,
-    expiry: UnixTimestamp,
-) -> Answer
-    ensures { (answer_of result ≡ answer_at book.old series (Open (opening_with params max_conf_bps expiry.0))) × (book.new ≡ after_at book.old series (Open (opening_with params max_conf_bps expiry.0))) }
+pub fn open(book: &mut [u8], series: u8, opening: Opening) -> Answer
+    ensures { (answer_of result ≡ answer_at book.old series (Open (opening_of opening))) × (book.new ≡ after_at book.old series (Open (opening_of opening))) }
 {
     match status_at(&book[..], series) {
         Ok(Status::Empty) => {
-            if !params.in_range() {
+            if !opening.params.in_range() {
                 return Answer::Refused(Refusal::InvalidOracleParams);
             }
-            store_open(
-                book,
-                series,
-                params,
-                max_conf_bps,
-                expiry,
-                SettlementParts::empty(),
-                None,
-                0,
-            );
+            store_open(book, series, opening, SettlementParts::empty(), None, 0);
             Answer::Opened
         }
         Ok(Status::Untested) => Answer::Refused(used(&book[..], series)),

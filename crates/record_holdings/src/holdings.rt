@@ -50,8 +50,8 @@ fn first_stand(bytes: &[u8], links: u8) -> bool
     })
 }
 
-// Whether the links are as prints leave them; without one, link changed is zero. A sixth link would
-// be read as a zero behind the five places, which is not after an expiry of 1 or later.
+// Whether the links are as prints leave them; without one, link changed is zero. The rules read a sixth
+// link as a zero behind the five places, which is not after an expiry of 1 or later.
 #[tactic(auto, using(crate::proofs::Stand::no_links, crate::proofs::Stand::links_early, crate::proofs::Stand::links_told, crate::proofs::Stand::links_many, endian::proofs::TwosComplement::came))]
 fn links_stand(bytes: &[u8]) -> bool
     ensures { result ≡ every (link_tests bytes.now) }

@@ -1,27 +1,25 @@
 -- What stands in a record.
-use Rattle.std.specs.Prelude.{ℕ, ℤ, pos, length, eqb, if◌then◌else◌}
+use Rattle.std.specs.Prelude.{pos, length, eqb, if◌then◌else◌}
 use Rattle.rules.specs.Bytes.{Bytes}
 use Rattle.rules.specs.Answers as R
 use Rattle.rules.specs.State.{Parts, parts_of}
-use Rattle.rules.specs.Series.{Opening, no_candidates}
+use Rattle.rules.specs.Series as S
+use Rattle.rules.specs.Series.{no_candidates}
 use Rattle.rules.specs.Record.{record_size, outcome, opening_in, parts_in, method_in, samples_in, price_in}
-use Rattle.core_terms.specs.declared.params.OracleParams.{OracleParams}
 use Rattle.core_terms.specs.Params.{terms_of}
 use Rattle.core_parts.specs.States.{stored_of}
 use Rattle.record_read.specs.declared.contents.Contents.{Contents}
+use Rattle.record_read.specs.declared.contents.Opening.{Opening}
 
-abbrev pub opening_with : OracleParams → ℕ → ℤ → Opening
-opening_with params bps expiry = record { terms = terms_of params; bps = bps; expiry = expiry }
+abbrev pub opening_of : Opening → S.Opening
+opening_of o = record { terms = terms_of o.params; bps = o.max_conf_bps; expiry = o.expiry.0 }
 
 pub record Held : Type 0 where
-  pub opening : Opening
+  pub opening : S.Opening
   pub parts : Parts
 
-abbrev pub opening_of : Contents → Opening
-opening_of c = opening_with c.params c.max_conf_bps c.expiry.0
-
 abbrev pub contents_of : Contents → Held
-contents_of c = record { opening = opening_of c; parts = stored_of c.state }
+contents_of c = record { opening = opening_of c.opening; parts = stored_of c.state }
 
 abbrev pub contents_in : Bytes → Held
 contents_in bs = record { opening = opening_in bs; parts = parts_in bs }

@@ -11,15 +11,23 @@ use core_terms::params::OracleParams;
 use core_terms::units::UnixTimestamp;
 use endian::LittleEndian;
 
-// What a record holds beside its outcome.
-#[derive(Clone, Copy)]
-pub struct Contents {
+// What a series is opened with.
+#[derive(Debug, Clone, Copy, PartialEq, Eq)]
+pub struct Opening {
     pub params: OracleParams,
     pub max_conf_bps: u16,
     pub expiry: UnixTimestamp,
+}
+
+// What a record holds beside its outcome.
+#[derive(Debug, Clone, Copy, PartialEq, Eq)]
+pub struct Contents {
+    pub opening: Opening,
     pub state: SettlementParts,
 }
 
+// The terms, which lie in another order here than in an entry: one function for both would need each
+// offset as a parameter.
 fn read_params(bytes: &[u8]) -> OracleParams
     ensures { terms_of result ≡ (opening_in bytes.now).terms }
 {
@@ -36,6 +44,7 @@ fn read_params(bytes: &[u8]) -> OracleParams
     }
 }
 
+// The candidates.
 fn read_state(bytes: &[u8]) -> SettlementParts
     ensures { stored_of result ≡ parts_in bytes.now }
 {
@@ -53,8 +62,8 @@ fn read_state(bytes: &[u8]) -> SettlementParts
     }
 }
 
-// Zeros, which no core call takes for terms: who reads a record needs no case of its own for bytes of
-// another length.
+// Zeros, which are no terms in range: who reads a record needs no case of its own for bytes of another
+// length.
 fn no_contents() -> Contents
     ensures { contents_of result ≡ no_contents }
 {
@@ -69,10 +78,13 @@ fn no_contents() -> Contents
         hard_deadline_s: 0,
         expo: 0,
     };
-    Contents {
+    let opening = Opening {
         params,
         max_conf_bps: 0,
         expiry: UnixTimestamp::new(0),
+    };
+    Contents {
+        opening,
         state: SettlementParts::empty(),
     }
 }
@@ -85,10 +97,13 @@ pub fn read_contents(bytes: &[u8]) -> Contents
     if bytes.len() != RECORD_SIZE {
         return no_contents();
     }
-    Contents {
+    let opening = Opening {
         params: read_params(bytes),
         max_conf_bps: u16::read(bytes, 8),
         expiry: UnixTimestamp::new(i64::read(bytes, 40)),
+    };
+    Contents {
+        opening,
         state: read_state(bytes),
     }
 }

@@ -8,16 +8,17 @@ use book::look::RECORD_SIZE;
 use core_decide::decide::{Decision, Order, decide_by};
 use core_terms::error::CoreError;
 use endian::LittleEndian;
-use record_read::contents::read_contents;
+use record_read::contents::{Contents, read_contents};
+use record_read::tag::Tag;
 
-// The order that a record is decided by: the old one under tag 2, else the voted one (#109).
+// The order that a record is decided by (#109).
 fn order_in(bytes: &[u8]) -> Order
     ensures { order_of result ≡ order_in bytes.now }
 {
-    if u8::read(bytes, 0) == 2 {
-        return Order::Old;
+    match Tag::try_from(u8::read(bytes, 0)) {
+        Ok(Tag::FixedOld) => Order::Old,
+        _ => Order::Voted,
     }
-    Order::Voted
 }
 
 // The core's decision on the fields, by the record's order; bytes of another length are refused with
@@ -28,7 +29,6 @@ pub fn decide_in(bytes: &[u8], now: i64) -> Result<Decision, CoreError>
     if bytes.len() != RECORD_SIZE {
         return Err(CoreError::InvariantViolated);
     }
-    let c = read_contents(bytes);
-    let state = c.state;
-    decide_by(state, c.params, c.expiry, now, order_in(bytes))
+    let Contents { opening, state } = read_contents(bytes);
+    decide_by(state, opening.params, opening.expiry, now, order_in(bytes))
 }

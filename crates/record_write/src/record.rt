@@ -5,7 +5,7 @@ ghost use Rattle.rules.specs.Bytes.{concat, bytes};
 ghost use Rattle.rules.specs.Record.{record_size, prices_in};
 ghost use Rattle.core_terms.specs.Params.{terms_of};
 ghost use Rattle.core_parts.specs.States.{stored_of};
-ghost use Rattle.record_read.specs.Records.{opening_with};
+ghost use Rattle.record_read.specs.Records.{opening_of};
 ghost use Rattle.record_write.specs.Stores.{head_fields, seconds_fields, sum_fields, last_fields, record_of, record_over};
 
 use crate::put::put;
@@ -13,11 +13,12 @@ use book::look::RECORD_SIZE;
 use core_parts::state::SettlementParts;
 use core_terms::params::OracleParams;
 use endian::LittleEndian;
+use record_read::contents::Opening;
 
 // The fields of a record beside its opening and its candidates. The tag and the method are bytes of the
 // format, and the definitions of a record speak of them as these numbers too: enums would be turned back
 // where they are written.
-#[derive(Clone, Copy)]
+#[derive(Debug, Clone, Copy, PartialEq, Eq)]
 pub struct Outcome {
     pub tag: u8,
     pub samples: u16,
@@ -96,17 +97,10 @@ fn write_last(part: &mut [u8; RECORD_SIZE], state: SettlementParts, outcome: Out
 // ---- the record as a whole
 
 // Writes a record over a record's bytes, whose slot prices stay. Bytes of another length stay too.
-// Not given as one `Contents`: that is copied at each call, and an open then takes five times the
-// instructions, a fix a third more.
-pub fn write_record(
-    part: &mut [u8],
-    params: OracleParams,
-    max_conf_bps: u16,
-    expiry: i64,
-    state: SettlementParts,
-    outcome: Outcome,
-)
-    ensures { part.new ≡ record_over part.old (record_of (opening_with params max_conf_bps expiry) (stored_of state) (prices_in part.old) outcome) }
+// Opening and state are not given as one `Contents`: that is copied at each call, and an open then takes
+// five times the instructions, a fix a third more.
+pub fn write_record(part: &mut [u8], opening: Opening, state: SettlementParts, outcome: Outcome)
+    ensures { part.new ≡ record_over part.old (record_of (opening_of opening) (stored_of state) (prices_in part.old) outcome) }
 {
     let Some(record) = part.as_mut_array() else {
         return;
@@ -114,13 +108,13 @@ pub fn write_record(
     write_head(
         record,
         outcome.tag,
-        params,
+        opening.params,
         state.next_len,
-        max_conf_bps,
+        opening.max_conf_bps,
         outcome.samples,
     );
-    write_seconds(record, params, state.filled_slots, outcome.method);
-    write_sum(record, expiry, state.sample_sum);
+    write_seconds(record, opening.params, state.filled_slots, outcome.method);
+    write_sum(record, opening.expiry.get(), state.sample_sum);
     write_links(record, 64, state.next_times);
     write_links(record, 104, state.next_prices);
     write_last(record, state, outcome);

@@ -25,7 +25,8 @@ fn give(book: &mut [u8], bytes: &[u8], from: usize, to: usize) -> Answer
 }
 
 // Zeroes the book and gives it every entry in turn. 35 for a book of another length, which stays.
-// Demand 3 holds of the same list. An empty list has no answer.
+// Demand 3 holds of the same list. An empty list has no answer. The entries are one buffer with their
+// ends beside it, and no slices, since then whoever calls would need room for as many slices.
 pub fn replay(book: &mut [u8], bytes: &[u8], ends: &[usize]) -> Option<Answer>
     ensures { (option_map answer_of result ≡ (if eqb (length book.old) book_size then last_answer (entries_of bytes.now ends.now) else Some (Refused 35)))
         × (book.new ≡ (if eqb (length book.old) book_size then run (entries_of bytes.now ends.now) else book.old))

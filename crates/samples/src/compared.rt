@@ -3,24 +3,28 @@ ghost use Rattle.std.specs.Prelude.{◌≡◌, ◌+◌, ◌-◌, ◌^◌, ◌≤
 
 use std::fmt;
 
-#[derive(Clone, Copy)]
+#[derive(Debug, Clone, Copy, PartialEq, Eq)]
 pub struct Compared {
     pub answers: u64,
     pub different: u64,
     ghost some: { different ≤ answers },
 }
 
-impl Compared {
-    pub fn new() -> Compared
-        ensures answers { result.answers ≡ 0 }
-        ensures different { result.different ≡ 0 }
-    {
+// Nothing compared. Not derived, since there is a ghost field.
+impl Default for Compared {
+    ghost use Rattle.samples.specs.declared.compared.Compared.{Compared};
+
+    ghost is_default = { λ c. (c.answers ≡ 0) × (c.different ≡ 0) };
+
+    fn default() -> Compared {
         Compared {
             answers: 0,
             different: 0,
         }
     }
+}
 
+impl Compared {
     // Counts one more answer, and hands on whether it is the same. A count stops at the greatest
     // number.
     pub fn count(&mut self, is_same: bool) -> bool

@@ -3,7 +3,7 @@ ghost use Rattle.std.specs.Prelude.{◌≡◌};
 
 use std::{fmt, io};
 
-#[derive(Clone, Copy, Debug, PartialEq, Eq)]
+#[derive(Debug, Clone, Copy, PartialEq, Eq)]
 pub enum Fault {
     NotASample,
     Broken,
@@ -18,7 +18,7 @@ impl fmt::Display for Fault {
     }
 }
 
-// A read fails where the sample is short.
+// A read fails where the sample is short, and a trial says `InvalidData` of a part that cannot be.
 impl From<io::Error> for Fault {
     ghost use Rattle.samples.specs.declared.fault.Fault.{Fault};
 

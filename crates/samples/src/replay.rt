@@ -17,17 +17,18 @@ pub fn bytes<const N: usize, R: Read>(reader: &mut R) -> io::Result<[u8; N]>
     Ok(b)
 }
 
-// How many parts the sample with this mark has. One with none is no sample.
-fn count<R: Read>(reader: &mut R, mark: [u8; 8]) -> Result<u32, Fault>
-    ensures some { IfOk result (λ n. 0 < n) }
-    ensures header { IfOk result (λ n. Consumes (R.remaining reader.old) (R.remaining reader.new) (mark ++ to_le_bytes w32 n)) }
+// How many parts the sample with this mark has. One with none is no sample, nor is one whose mark
+// and number cannot be read.
+fn count<R: Read>(reader: &mut R, mark: [u8; 8]) -> Option<u32>
+    ensures some { IfSome result (λ n. 0 < n) }
+    ensures header { IfSome result (λ n. Consumes (R.remaining reader.old) (R.remaining reader.new) (mark ++ to_le_bytes w32 n)) }
 {
-    let first = bytes(reader)?;
-    let n = u32::from_le_bytes(bytes(reader)?);
+    let first = bytes(reader).ok()?;
+    let n = u32::from_le_bytes(bytes(reader).ok()?);
     if first != mark || n == 0 {
-        return Err(Fault::NotASample);
+        return None;
     }
-    Ok(n)
+    Some(n)
 }
 
 // No byte is left. A read that fails does not say so.
@@ -73,9 +74,7 @@ pub fn replay<T: Trial, R: Read>(trial: &mut T, reader: &mut R) -> Result<(), Fa
     ensures end { OnOk result (IsAtEnd (R.remaining reader.new)) }
     ensures no_sample { IsErrOf result Fault.NotASample → trial.new ≡ trial.old }
 {
-    let Ok(n) = count(reader, T::MARK) else {
-        return Err(Fault::NotASample);
-    };
+    let n = count(reader, T::MARK).ok_or(Fault::NotASample)?;
     parts(trial, reader, n)?;
     end(reader)?;
     Ok(())

@@ -1,14 +1,13 @@
 -- A turn of the loop: one part more for the reader.
 use Prim.Native.Nat.{ℕ, ◌+◌, ◌≤◌, ◌<◌}
 use mathlib.Core.Path.{◌≡◌, refl, sym, ap, subst, ◌∙◌}
-use mathlib.Core.Bool.{Bool, true, false, ◌||◌, true≢false}
+use mathlib.Core.Bool.{Bool, true, false, ◌||◌}
 use mathlib.Core.List.{[], ◌++◌, append_assoc, append-nil}
 use native.Mathlib.Omega.{arith}
 use lib.ListN.{length, take, drop, length-append, length-drop}
 use lib.Dec.{eqb}
-use lib.Seq.{length-take-le, take-add, drop_at, take-append-le}
+use lib.Seq.{length-take-le, take-add}
 use borrow.Author.Tests.{eqb-true}
-use borrow.Rule.Slice.PartMut.{put_mid, post_of, take_put}
 use Rattle.rules.specs.Log.{Log, ◌▹◌}
 use Rattle.rules.specs.Bytes.{Bytes}
 use Rattle.journal.specs.Parts.{Reader, on, reads, read_all, joined, finish}
@@ -16,12 +15,12 @@ use Rattle.journal.proofs.Parts.{any_parts}
 use Rattle.rules.specs.Book.{run}
 use Rattle.rules.specs.Journal.{journal_entries, sheet}
 use Rattle.sheet.specs.declared.Left.{Left}
-use Rattle.sheet.specs.declared.Place.{Place}
+use Rattle.sheet.specs.declared.Feeder.{Feeder}
 use Rattle.sheet.specs.declared.Failure.{Failure}
 use Rattle.std.specs.Prelude.{Option, Some, None, IfSome, Result, Ok, Err}
 use Rattle.std.specs.Io.KnownBytes.{Consumes, Appends, IsAtEnd}
-use Rattle.sheet.specs.Told.{Ends, Goes, HandsOn, Turns}
 use Rattle.sheet.specs.Holds.{Holds, at_most64, Reading, OneMore, Over}
+use Rattle.sheet.specs.Told.{At, Ends, Goes, HandsOn, Turns}
 
 -- the bytes that a reader holds may as well come with the others
 together : (last : Bool) (r : Reader) (bytes : Bytes) → r.ended ≡ false
@@ -42,10 +41,6 @@ appends_on None to₁ to k ls w a = tt
 appends_on (Some xs) None to k ls w a = absurd a
 appends_on (Some xs) (Some ys) None k ls w a = absurd w
 appends_on (Some xs) (Some ys) (Some zs) k ls w a = w ∙ ap (λ (l : Bytes). l ++ ls) a ∙ append_assoc xs k ls
-
-neither : (a b : Bool) → a || b ≡ false → (a ≡ false) × (b ≡ false)
-neither true b o = absurd (true≢false o)
-neither false b o = (refl, o)
 
 -- n bytes stand behind the held ones
 module _ (parts : Log Bytes) (book₀ part₁ : Bytes) (held read n : ℕ) (was : Reading parts book₀ part₁ held read) where
@@ -70,10 +65,9 @@ module _ (parts : Log Bytes) (book₀ part₁ : Bytes) (held read n : ℕ) (was 
   pub reading_on : {last : Bool} {left : Left} {book₂ part₂ out₂ : Bytes} {read₂ : ℕ}
       → held + n ≤ length part₁
       → Holds left book₂ part₂ out₂ (reads last (on book₀) (take (held + n) part₁))
-      → last || left.ended ≡ false → (last ≡ false → left.ended ≡ false → left.held < 46) → read₂ ≡ at_most64 (read + n)
+      → last ≡ false → left.ended ≡ false → (last ≡ false → left.ended ≡ false → left.held < 46) → read₂ ≡ at_most64 (read + n)
       → Reading (parts ▹ came) book₂ part₂ left.held read₂
-  reading_on {last} {left} inside h o short count =
-      let (l, e) = neither last left.ended o in
+  reading_on {last} {left} inside h l e short count =
       let (b, k, t) = rw l at (reads-part last h) in
       record {
         booked = b;
@@ -86,9 +80,9 @@ module _ (parts : Log Bytes) (book₀ part₁ : Bytes) (held read n : ℕ) (was 
   pub reads_on : {last : Bool} {left : Left} {book₂ part₂ out₂ : Bytes} {read₂ : ℕ}
       → held + n ≤ length part₁
       → Holds left book₂ part₂ out₂ (reads last (on book₀) (take (held + n) part₁))
-      → last || left.ended ≡ false → (last ≡ false → left.ended ≡ false → left.held < 46) → read₂ ≡ at_most64 (read + n)
+      → last ≡ false → left.ended ≡ false → (last ≡ false → left.ended ≡ false → left.held < 46) → read₂ ≡ at_most64 (read + n)
       → OneMore parts book₂ part₂ left.held read₂
-  reads_on inside h o short count = record { bytes = came; reading = reading_on inside h o short count }
+  reads_on inside h l e short count = record { bytes = came; reading = reading_on inside h l e short count }
 
   pub reads-last : (last : Bool) {left : Left} {book₂ part₂ out₂ : Bytes}
       → Holds left book₂ part₂ out₂ (reads last (on book₀) (take (held + n) part₁)) → last || left.ended ≡ true → Over parts book₂
@@ -116,60 +110,54 @@ module _ (parts : Log Bytes) (book₀ part₁ : Bytes) (held read n : ℕ) (was 
   pub goes_with : {last : Bool} {left : Left} {book₂ part₂ out₂ : Bytes} {read₂ : ℕ} {to₁ to : Option Bytes}
       → held + n ≤ length part₁
       → Holds left book₂ part₂ out₂ (reads last (on book₀) (take (held + n) part₁))
-      → last || left.ended ≡ false → (last ≡ false → left.ended ≡ false → left.held < 46) → read₂ ≡ at_most64 (read + n)
+      → last ≡ false → left.ended ≡ false → (last ≡ false → left.ended ≡ false → left.held < 46) → read₂ ≡ at_most64 (read + n)
       → Appends to₁ to (take left.written out₂)
       → Goes parts came book₂ part₂ left.held read₂ to₁ to
-  goes_with {last} {left} {to₁ = to₁} {to} inside h o short count w =
-      let (l, e) = neither last left.ended o in
+  goes_with {last} {left} {to₁ = to₁} {to} inside h l e short count w =
       let q = rw l at (lines_part last h) in
       record {
-        reading = reading_on inside h o short count;
+        reading = reading_on inside h l e short count;
         tells = λ to₀ a. rw q (appends_on to₀ to₁ to (read_all parts).lines _ w a);
       }
 
 -- a read leaves the held bytes as they were, and puts what came behind them
-module _ (book₀ part₀ got : Bytes) (held room read : ℕ) (starts : held ≤ length part₀) where
-  abbrev part₁ : Bytes
-  part₁ = put_mid held room part₀ got
+module _ (before : Feeder) (part₁ : Bytes) (kept : take before.held part₁ ≡ take before.held before.part) where
+  abbrev there : Feeder
+  there = record { book = before.book; part = part₁; out = before.out; held = before.held; read = before.read }
 
-  still : {parts : Log Bytes} → Reading parts book₀ part₀ held read → Reading parts book₀ part₁ held read
+  still : {parts : Log Bytes} → At parts before → At parts there
   still was =
       record {
         booked = was.booked;
-        keeps = take_put held room part₀ got starts ∙ was.keeps;
+        keeps = kept ∙ was.keeps;
         goes = was.goes;
         counted = was.counted;
         short = was.short;
       }
 
-  came_is : (n : ℕ) → n ≤ length got → take n (drop held part₁) ≡ take n got
-  came_is n h =
-      ap (take n) (drop_at (take held part₀) (got ++ post_of held room part₀) held (length-take-le held part₀ starts))
-      ∙ take-append-le n got (post_of held room part₀) h
+  hands_still : (r : Result Bool Failure) (last : Bool) (bytes : Bytes) (after : Feeder) (to₁ to : Option Bytes)
+      → HandsOn r last bytes there after to₁ to → HandsOn r last bytes before after to₁ to
+  hands_still (Ok false) last bytes after to₁ to on = λ parts was. on parts (still was)
+  hands_still (Ok true) last bytes after to₁ to on = λ parts was. on parts (still was)
+  hands_still (Err e) last bytes after to₁ to on = tt
 
-  pub hands_still : (r : Result (Option Place) Failure) (last : Bool) (bytes book part : Bytes) (to₁ to : Option Bytes)
-      → HandsOn r last bytes book₀ part₁ held read book part to₁ to → HandsOn r last bytes book₀ part₀ held read book part to₁ to
-  hands_still (Ok (Some at)) last bytes book part to₁ to on = λ parts was. on parts (still was)
-  hands_still (Ok None) last bytes book part to₁ to on = λ parts was. on parts (still was)
-  hands_still (Err e) last bytes book part to₁ to on = tt
-
-  pub turned : (r : Result (Option Place) Failure) (n : ℕ) (book part : Bytes) (from₁ from to₁ to : Option Bytes) → n ≤ length got
-      → Consumes from₁ from (take n got) → (n ≡ 0 → 0 < length got → IsAtEnd from) → 0 < length got
-      → HandsOn r (eqb n 0) (take n (drop held part₁)) book₀ part₁ held read book part to₁ to
-      → Turns r book₀ part₀ held read book part from₁ from to₁ to
-  turned r n book part from₁ from to₁ to h c e some on =
+  pub turned : (r : Result Bool Failure) (n : ℕ) (after : Feeder) (from₁ from to₁ to : Option Bytes)
+      → Consumes from₁ from (take n (drop before.held part₁)) → (n ≡ 0 → 0 < length (drop before.held part₁) → IsAtEnd from) → 0 < length (drop before.held part₁)
+      → HandsOn r (eqb n 0) (take n (drop before.held part₁)) there after to₁ to
+      → Turns r before after from₁ from to₁ to
+  turned r n after from₁ from to₁ to c e some on =
       record {
         last = eqb n 0;
-        bytes = take n (drop held part₁);
-        came = rw (came_is n h) c;
-        over = λ l. (ap (λ (k : ℕ). take k (drop held part₁)) (eqb-true n 0 l), e (eqb-true n 0 l) some);
-        done = hands_still r (eqb n 0) (take n (drop held part₁)) book part to₁ to on;
+        bytes = take n (drop before.held part₁);
+        came = c;
+        over = λ l. (ap (λ (k : ℕ). take k (drop before.held part₁)) (eqb-true n 0 l), e (eqb-true n 0 l) some);
+        done = hands_still r (eqb n 0) (take n (drop before.held part₁)) after to₁ to on;
       }
 
 -- some parts have been read, and their lines written
-pub record Started (book part : Bytes) (held read : ℕ) (from₀ from to₀ to : Option Bytes) : Type 0 where
+pub record Started (f : Feeder) (from₀ from to₀ to : Option Bytes) : Type 0 where
   pub parts : Log Bytes
-  pub reading : Reading parts book part held read
+  pub reading : At parts f
   pub came : Consumes from₀ from (joined parts)
   pub told : Appends to₀ to (read_all parts).lines
 
@@ -207,13 +195,13 @@ if_known None h = tt
 if_known (Some xs) h = h xs refl
 
 -- what a turn has done, when its result is known
-pub turns_as : {r q : Result (Option Place) Failure} {book₀ part₀ book part : Bytes} {held₀ read₀ : ℕ} {from₁ from to₁ to : Option Bytes} → r ≡ q
-    → Turns r book₀ part₀ held₀ read₀ book part from₁ from to₁ to → Turns q book₀ part₀ held₀ read₀ book part from₁ from to₁ to
-turns_as {book₀ = book₀} {part₀} {book} {part} {held₀} {read₀} {from₁} {from} {to₁} {to} e t = subst (λ r. Turns r book₀ part₀ held₀ read₀ book part from₁ from to₁ to) e t
+pub turns_as : {r q : Result Bool Failure} {before after : Feeder} {from₁ from to₁ to : Option Bytes} → r ≡ q
+    → Turns r before after from₁ from to₁ to → Turns q before after from₁ from to₁ to
+turns_as {before = before} {after} {from₁} {from} {to₁} {to} e t = subst (λ r. Turns r before after from₁ from to₁ to) e t
 
 -- one part more has been read
-pub started_on : {at : Place} {book₀ part₀ book part : Bytes} {held₀ read₀ : ℕ} (from₀ from₁ from to₀ to₁ to : Option Bytes) → Started book₀ part₀ held₀ read₀ from₀ from₁ to₀ to₁
-    → Turns (Ok (Some at)) book₀ part₀ held₀ read₀ book part from₁ from to₁ to → Started book part at.held at.read from₀ from to₀ to
+pub started_on : {before after : Feeder} (from₀ from₁ from to₀ to₁ to : Option Bytes) → Started before from₀ from₁ to₀ to₁
+    → Turns (Ok false) before after from₁ from to₁ to → Started after from₀ from to₀ to
 started_on from₀ from₁ from to₀ to₁ to s t =
     let d = t.done s.parts s.reading in
     record {
@@ -223,15 +211,15 @@ started_on from₀ from₁ from to₀ to₁ to s t =
       told = d.tells to₀ s.told;
     }
 
-module _ {book₀ part₀ book part : Bytes} {held₀ read₀ : ℕ} (from₀ from₁ from to₀ to₁ to : Option Bytes) (s : Started book₀ part₀ held₀ read₀ from₀ from₁ to₀ to₁)
-    (t : Turns (Ok None) book₀ part₀ held₀ read₀ book part from₁ from to₁ to) where
-  whole_journal : (xs : Bytes) → from₀ ≡ Some xs → Appends to₀ to (sheet (journal_entries xs)) × (book ≡ run (journal_entries xs))
+module _ {before after : Feeder} (from₀ from₁ from to₀ to₁ to : Option Bytes) (s : Started before from₀ from₁ to₀ to₁)
+    (t : Turns (Ok true) before after from₁ from to₁ to) where
+  whole_journal : (xs : Bytes) → from₀ ≡ Some xs → Appends to₀ to (sheet (journal_entries xs)) × (after.book ≡ run (journal_entries xs))
   whole_journal xs e =
       let c = consumes_on from₀ from₁ from (joined s.parts) t.bytes s.came t.came in
       go from (rw e at c) t.over
     where
       go : (from : Option Bytes) → Consumes (Some xs) from (joined s.parts ++ t.bytes) → (t.last ≡ true → (t.bytes ≡ []) × IsAtEnd from)
-          → Appends to₀ to (sheet (journal_entries xs)) × (book ≡ run (journal_entries xs))
+          → Appends to₀ to (sheet (journal_entries xs)) × (after.book ≡ run (journal_entries xs))
       go None c o = absurd c
       go (Some rest) c o =
           let d = t.done s.parts s.reading in
@@ -242,5 +230,5 @@ module _ {book₀ part₀ book part : Bytes} {held₀ read₀ : ℕ} (from₀ fr
   pub all_written : IfSome from₀ (λ journal. Appends to₀ to (sheet (journal_entries journal)))
   all_written = if_known from₀ (λ xs e. (whole_journal xs e).0)
 
-  pub all_booked : IfSome from₀ (λ journal. book ≡ run (journal_entries journal))
+  pub all_booked : IfSome from₀ (λ journal. after.book ≡ run (journal_entries journal))
   all_booked = if_known from₀ (λ xs e. (whole_journal xs e).1)

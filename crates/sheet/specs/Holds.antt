@@ -1,11 +1,9 @@
 -- What the program has after a part of a journal, as the reader of journal/specs/Parts has it.
-use Rattle.std.specs.Prelude.{ℕ, ◌<◌, min, ◌≡◌, Bool, true, false, ◌||◌, length, take, Option, Some, None, Result, Ok, Err}
+use Rattle.std.specs.Prelude.{ℕ, ◌<◌, min, ◌≡◌, Bool, true, false, ◌||◌, length, take}
 use Rattle.rules.specs.Log.{Log, ◌▹◌}
 use Rattle.rules.specs.Bytes.{Bytes}
 use Rattle.journal.specs.Parts.{Reader, reads, read_all, joined}
 use Rattle.sheet.specs.declared.Left.{Left}
-use Rattle.sheet.specs.declared.Place.{Place}
-use Rattle.sheet.specs.declared.Failure.{Failure}
 
 -- the reader's bytes stand at the front of part, its lines at the front of out
 pub record Holds (left : Left) (book part out : Bytes) (r : Reader) : Type 0 where
@@ -37,9 +35,3 @@ pub record Over (parts : Log Bytes) (book : Bytes) : Type 0 where
   pub bytes : Bytes
   pub booked : book ≡ (reads last (read_all parts) bytes).book
   pub ends : last || (reads last (read_all parts) bytes).ended ≡ true
-
--- what a turn of the loop has done, whatever parts were read ahead of it; nothing is said of one that failed
-abbrev pub GoesOn : Result (Option Place) Failure → (book₀ part₀ : Bytes) (held₀ read₀ : ℕ) (book part : Bytes) → Type 0
-GoesOn (Ok (Some at)) book₀ part₀ held₀ read₀ book part = (parts : Log Bytes) → Reading parts book₀ part₀ held₀ read₀ → OneMore parts book part at.held at.read
-GoesOn (Ok None) book₀ part₀ held₀ read₀ book part = (parts : Log Bytes) → Reading parts book₀ part₀ held₀ read₀ → Over parts book
-GoesOn (Err e) book₀ part₀ held₀ read₀ book part = Unit

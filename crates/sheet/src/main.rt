@@ -3,19 +3,20 @@
 #![tactic(auto)]
 
 ghost use Rattle.std.specs.Prelude.{◌==◌, IfSome, OnOk, ◌+◌, ◌≤◌, ◌<◌, ◌≡◌, false, length, take, drop};
-ghost use Rattle.std.specs.Io.KnownBytes.{Appends};
+ghost use Rattle.std.specs.Io.{ReadsAtMost};
+ghost use Rattle.std.specs.Io.KnownBytes.{Appends, ReadConsumes};
 ghost use Rattle.rules.specs.Bytes.{zeros};
 ghost use Rattle.rules.specs.Book.{run};
 ghost use Rattle.rules.specs.Journal.{journal_entries, sheet};
 ghost use Rattle.rules.specs.Record.{book_size};
 ghost use Rattle.journal.specs.Parts.{on, reads};
-ghost use Rattle.sheet.specs.Told.{HandsOn, Turns};
-ghost use Rattle.sheet.specs.Holds.{Holds, GoesOn};
+ghost use Rattle.sheet.specs.Holds.{Holds};
+ghost use Rattle.sheet.specs.Told.{GoesOn, HandsOn, Turns};
 
 use book::look::BOOK_SIZE;
 use journal::feed::feed;
-use std::fmt;
 use std::io::{Read, Write};
+use std::{fmt, io};
 
 // The most that is read at once.
 const PART: usize = 65536;
@@ -26,23 +27,27 @@ const LINES: usize = 655360;
 
 // What a part of the journal leaves: the bytes of its lines, the bytes at its front that wait for
 // the rest of their command, and whether the journal has ended.
-#[derive(Clone, Copy)]
+#[derive(Debug, Clone, Copy, PartialEq, Eq)]
 struct Left {
     written: usize,
     held: usize,
     ended: bool,
 }
 
-// How far the reading has come: `held` bytes of an unfinished command stand at the front of part,
-// and `read` bytes of the journal were read.
-#[derive(Clone, Copy)]
-struct Place {
+// Gives a journal to a book, part by part: `held` bytes of an unfinished command stand at the front
+// of part, and `read` bytes of the journal were read. The lines of a part are made in out. That
+// fewer than 46 bytes are held was tried as a ghost field: with one `give` was not proved.
+#[derive(Drop)]
+struct Feeder {
+    book: [u8; BOOK_SIZE],
+    part: [u8; PART],
+    out: [u8; LINES],
     held: usize,
     read: u64,
 }
 
-// What failed, and after which byte of the journal; or there were more turns than a proved loop has.
-#[derive(Clone, Copy)]
+// What failed, and after which byte of the journal; or the journal has more parts than can be counted.
+#[derive(Debug, Clone, Copy, PartialEq, Eq)]
 enum Failure {
     Read(u64),
     Write(u64),
@@ -78,107 +83,95 @@ fn write<W: Write>(to: &mut W, lines: &[u8], read: u64) -> Result<(), Failure>
     to.flush().map_err(|_| Failure::Write(read))
 }
 
-// Gives the first bytes of part to the book, and leaves what no command has taken at its front.
-fn give(
-    book: &mut [u8],
-    part: &mut [u8; PART],
-    end: usize,
-    last: bool,
-    out: &mut [u8; LINES],
-) -> Left
-    requires end_in_bounds { end ≤ length part.old }
-    ensures holds { Holds result book.new part.new out.new (reads last (on book.old) (take end part.old)) }
-    ensures written_in_bounds { result.written ≤ length out.old }
-    ensures held_is_short { last ≡ false → result.ended ≡ false → result.held < 46 }
+// Reads once, behind the bytes that are held. Not in `turn`: of a field that is an array it is not
+// known what it holds once a part of it was lent.
+fn read_behind<R: Read>(from: &mut R, part: &mut [u8], held: usize) -> io::Result<usize>
+    requires { held ≤ length part.old }
+    ensures kept { take held part.new ≡ take held part.old }
+    ensures bound { ReadsAtMost result (drop held part.new) }
+    ensures bytes { ReadConsumes (R.remaining from.old) (R.remaining from.new) result (drop held part.new) }
 {
-    let fed = feed(book, &part[..end], last, out);
-    part.copy_within(fed.taken..end, 0);
-    Left {
-        written: fed.written,
-        held: end - fed.taken,
-        ended: fed.ended,
-    }
+    from.read(&mut part[held..])
 }
 
-// Gives the n bytes behind the held ones to the book, and writes their lines. Answers where to go
-// on, or nothing when the journal has ended.
-fn hand_on<W: Write>(
-    to: &mut W,
-    book: &mut [u8],
-    part: &mut [u8; PART],
-    out: &mut [u8; LINES],
-    at: Place,
-    n: usize,
-) -> Result<Option<Place>, Failure>
-    requires { at.held + n ≤ length part.old }
-    ensures goes_on { GoesOn result book.old part.old at.held at.read book.new part.new }
-    ensures hands_on { HandsOn result (n == 0) (take n (drop at.held part.old)) book.old part.old at.held at.read book.new part.new
-        (W.contents to.old) (W.contents to.new) }
-{
-    let end = at.held + n;
-    let left = give(book, part, end, n == 0, out);
-    let read = at.read.saturating_add(n as u64);
-    write(to, &out[..left.written], read)?;
-    if (n == 0) | left.ended {
-        return Ok(None);
+impl Feeder {
+    // Gives the bytes of part before the end to the book, and leaves what no command has taken at its
+    // front. A slice in place of the end was tried: the call with a part of the field was not proved.
+    fn give(&mut self, end: usize, last: bool) -> Left
+        requires end_in_bounds { end ≤ length self.old.part }
+        ensures holds { Holds result self.new.book self.new.part self.new.out (reads last (on self.old.book) (take end self.old.part)) }
+        ensures written_in_bounds { result.written ≤ length self.old.out }
+        ensures held_is_short { last ≡ false → result.ended ≡ false → result.held < 46 }
+        ensures read { self.new.read ≡ self.old.read }
+    {
+        let fed = feed(&mut self.book, &self.part[..end], last, &mut self.out);
+        self.part.copy_within(fed.taken..end, 0);
+        Left {
+            written: fed.written,
+            held: end - fed.taken,
+            ended: fed.ended,
+        }
     }
-    Ok(Some(Place {
-        held: left.held,
-        read,
-    }))
-}
 
-// Reads once, and writes the lines of what came.
-fn turn<R: Read, W: Write>(
-    from: &mut R,
-    to: &mut W,
-    book: &mut [u8],
-    part: &mut [u8; PART],
-    out: &mut [u8; LINES],
-    at: Place,
-) -> Result<Option<Place>, Failure>
-    requires { at.held < 46 }
-    ensures goes_on { GoesOn result book.old part.old at.held at.read book.new part.new }
-    ensures turns { Turns result book.old part.old at.held at.read book.new part.new
-        (R.remaining from.old) (R.remaining from.new) (W.contents to.old) (W.contents to.new) }
-{
-    let Ok(n) = from.read(&mut part[at.held..]) else {
-        return Err(Failure::Read(at.read));
-    };
-    hand_on(to, book, part, out, at, n)
-}
-
-// Gives the whole journal to the book, and writes its sheet.
-fn run<R: Read, W: Write>(
-    from: &mut R,
-    to: &mut W,
-    book: &mut [u8],
-    part: &mut [u8; PART],
-    out: &mut [u8; LINES],
-) -> Result<(), Failure>
-    requires { book.old ≡ zeros book_size }
-    ensures written { OnOk result (IfSome (R.remaining from.old) (λ journal.
-        Appends (W.contents to.old) (W.contents to.new) (sheet (journal_entries journal)))) }
-    ensures booked { OnOk result (IfSome (R.remaining from.old) (λ journal. book.new ≡ run (journal_entries journal))) }
-{
-    let mut at = Place { held: 0, read: 0 };
-    // A proved loop has to end, and nothing says that an input does.
-    for _ in 0..u64::MAX {
-        let Some(next) = turn(from, to, book, part, out, at)? else {
-            return Ok(());
-        };
-        at = next;
+    // Gives the held bytes and the n behind them to the book, and writes their lines. Answers whether
+    // the journal has ended.
+    fn hand_on<W: Write>(&mut self, to: &mut W, n: usize) -> Result<bool, Failure>
+        requires { self.old.held + n ≤ length self.old.part }
+        ensures goes_on { GoesOn result self.old self.new }
+        ensures hands_on { HandsOn result (n == 0) (take n (drop self.old.held self.old.part)) self.old self.new
+            (W.contents to.old) (W.contents to.new) }
+    {
+        let left = self.give(self.held + n, n == 0);
+        self.read = self.read.saturating_add(n as u64);
+        write(to, &self.out[..left.written], self.read)?;
+        if n == 0 || left.ended {
+            return Ok(true);
+        }
+        self.held = left.held;
+        Ok(false)
     }
-    Err(Failure::Endless)
+
+    // Reads once, and writes the lines of what came. Answers whether the journal has ended.
+    fn turn<R: Read, W: Write>(&mut self, from: &mut R, to: &mut W) -> Result<bool, Failure>
+        requires { self.old.held < 46 }
+        ensures goes_on { GoesOn result self.old self.new }
+        ensures turns { Turns result self.old self.new
+            (R.remaining from.old) (R.remaining from.new) (W.contents to.old) (W.contents to.new) }
+    {
+        let n = read_behind(from, &mut self.part, self.held).map_err(|_| Failure::Read(self.read))?;
+        self.hand_on(to, n)
+    }
+
+    // Gives the whole journal to the book, and writes its sheet.
+    fn run<R: Read, W: Write>(&mut self, from: &mut R, to: &mut W) -> Result<(), Failure>
+        requires zeroed { self.old.book ≡ zeros book_size }
+        requires nothing_held { self.old.held ≡ 0 }
+        requires nothing_read { self.old.read ≡ 0 }
+        ensures written { OnOk result (IfSome (R.remaining from.old) (λ journal.
+            Appends (W.contents to.old) (W.contents to.new) (sheet (journal_entries journal)))) }
+        ensures booked { OnOk result (IfSome (R.remaining from.old) (λ journal. self.new.book ≡ run (journal_entries journal))) }
+    {
+        // A proved loop has to end, and nothing says that an input does.
+        for _ in 0..u64::MAX {
+            if self.turn(from, to)? {
+                return Ok(());
+            }
+        }
+        Err(Failure::Endless)
+    }
 }
 
 fn main(rt: HostRuntime) {
-    let mut book = [0u8; BOOK_SIZE];
-    let mut part = [0u8; PART];
-    let mut out = [0u8; LINES];
+    let mut feeder = Feeder {
+        book: [0; BOOK_SIZE],
+        part: [0; PART],
+        out: [0; LINES],
+        held: 0,
+        read: 0,
+    };
     let mut from = rt.stdin();
     let mut to = rt.stdout();
-    if let Err(failure) = run(&mut from, &mut to, &mut book, &mut part, &mut out) {
+    if let Err(failure) = feeder.run(&mut from, &mut to) {
         tell(&mut rt.stderr(), failure);
     }
 }

@@ -27,7 +27,6 @@ use Rattle.book.specs.Looks.{Allowed}
 use Rattle.book.specs.Refusals.{in_book}
 use Rattle.book.proofs.Looks.{part_at, part_is, put_is, allowed-part, part_looked}
 use Rattle.record_read.specs.Records.{Held, contents_from, contents_in}
-use Rattle.record_read.proofs.Records.{contents_whole}
 use Rattle.record_write.specs.Stores.{record_over}
 use Rattle.record_write.proofs.Stores.{over_whole}
 use Rattle.record_test.specs.Statuses.{stored_at}
@@ -54,24 +53,18 @@ freed_kept p i price now e =
       fallback_changed = p.fallback_changed;
     }
 
--- ---- what a look gave, read
+-- ---- the price of a slot, read from what a look gave
 
-module _ (book : Bytes) (s : ℕ) (h : Allowed book s) {r : Bytes} (l : r ≡ value_or [] (look book s)) where
-  held_at : {x : Held} → x ≡ contents_from r → x ≡ contents_in (record_at s book)
-  held_at e = let (own, whole) = part_looked book s (sym h) l in e ∙ contents_whole r whole ∙ ap contents_in own
-
-  price_at : {price : ℕ} (i : ℕ) → i < slot_places → price ≡ unsigned_at r (slot_prices_at + 8 * i) 8 → price ≡ get_or (prices_in (record_at s book)) i 0
-  price_at i m e = e ∙ ap (λ (x : Bytes). unsigned_at x (slot_prices_at + 8 * i) 8) (part_looked book s (sym h) l).0 ∙ sym (price_at_lem (record_at s book) i m)
+price_at : (book : Bytes) (s : ℕ) → Allowed book s → {r : Bytes} → r ≡ value_or [] (look book s) → {price : ℕ} (i : ℕ) → i < slot_places
+    → price ≡ unsigned_at r (slot_prices_at + 8 * i) 8 → price ≡ get_or (prices_in (record_at s book)) i 0
+price_at book s h l i m e = e ∙ ap (λ (x : Bytes). unsigned_at x (slot_prices_at + 8 * i) 8) (part_looked book s (sym h) l).0 ∙ sym (price_at_lem (record_at s book) i m)
 
 -- ---- the record stored, by what was read
 
-module _ (book : Bytes) (s i : ℕ) (k : CanFree book s i) {r : Bytes} (l : r ≡ value_or [] (look book s)) {x : Held} (e : x ≡ contents_from r)
+module _ (book : Bytes) (s i : ℕ) (k : CanFree book s i) {r : Bytes} (l : r ≡ value_or [] (look book s)) {x : Held} (of_record : x ≡ contents_in (record_at s book))
     {price : ℕ} (d : price ≡ unsigned_at r (slot_prices_at + 8 * i) 8) where
   abbrev bs : Bytes
   bs = record_at s book
-
-  of_record : x ≡ contents_in bs
-  of_record = held_at book s k.allowed l e
 
   of_price : price ≡ get_or (prices_in bs) i 0
   of_price = price_at book s k.allowed l i k.one_of d
@@ -141,7 +134,7 @@ module _ (book : Bytes) (s : ℕ) (h : Untested book s) {r : Bytes} (l : r ≡ v
   unfolding candidates_of
   no_print k m b = in_book_lem true (passed_lem k) (rw (W.no_print o (holding p prices) now i m b) (refl, refl))
 
-  held : x ≡ contents_in (record_at s book)
+  pub held : x ≡ contents_in (record_at s book)
   held = held_in book s h l e
 
   -- the state goes back into its own parts

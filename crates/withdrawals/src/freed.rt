@@ -1,19 +1,9 @@
 // The candidates without the print of a slot.
 ghost use Rattle.std.specs.Prelude.{◌≡◌, ◌^◌, ◌≤◌, ◌<◌};
-ghost use Rattle.rules.specs.Taking.{bit};
 ghost use Rattle.core_parts.specs.States.{stored_of};
 ghost use Rattle.withdrawals.specs.Freed.{freed_parts};
 
 use core_parts::state::SettlementParts;
-
-// Whether slot i is filled.
-#[tactic(auto, unfolding(rules::specs::Taking::bit))]
-pub(crate) fn is_filled(bits: u32, i: u8) -> bool
-    requires { i < 32 }
-    ensures { result ≡ bit i bits }
-{
-    (bits >> (i as u32)) % 2 == 1
-}
 
 // The state without the print of slot i, which has this price.
 #[tactic(auto, using(core_take::proofs::Bits::mask_is), unfolding(core_parts::specs::States::stored_of))]

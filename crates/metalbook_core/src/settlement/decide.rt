@@ -24,8 +24,7 @@ impl SettlementState {
     ) -> Result<Decision, CoreError>
         ensures { decision_of result ≡ decide_call (order_of order) (terms_of params) expiry.0 (state_of self) now }
     {
-        let p = self.parts;
-        core_decide::decide::decide_by(p, params, expiry, now, order)
+        core_decide::decide::decide_by(self.parts, params, expiry, now, order)
     }
 
     // The same by the vote.
@@ -37,7 +36,6 @@ impl SettlementState {
     ) -> Result<Decision, CoreError>
         ensures { decision_of result ≡ decide_call voted (terms_of params) expiry.0 (state_of self) now }
     {
-        let p = self.parts;
-        core_decide::decide::decide(p, params, expiry, now)
+        core_decide::decide::decide(self.parts, params, expiry, now)
     }
 }

@@ -11,13 +11,13 @@ pub use core_parts::state::SettlementParts;
 use core_terms::error::CoreError;
 use core_terms::params::OracleParams;
 
-#[derive(Clone, Copy)]
+#[derive(Debug, Clone, Copy, PartialEq, Eq)]
 pub struct SettlementState {
     pub parts: SettlementParts,
 }
 
-// The answer, and beside it the state, which holds arrays.
-#[derive(Clone, Copy)]
+// The answer, and beside it the state, as 01 has it: on a refusal the empty one.
+#[derive(Debug, Clone, Copy, PartialEq, Eq)]
 pub struct Restored {
     pub result: Result<(), CoreError>,
     pub state: SettlementState,
@@ -28,16 +28,16 @@ impl SettlementState {
     pub fn empty() -> SettlementState
         ensures { state_of result ≡ parts_of no_candidates }
     {
-        let p = SettlementParts::empty();
-        SettlementState { parts: p }
+        SettlementState {
+            parts: SettlementParts::empty(),
+        }
     }
 
-    // `restore`'s test: every call that takes a state asks this, after the terms.
+    // `restore`'s test, of terms that are in range.
     pub fn in_range(self, params: OracleParams) -> bool
         ensures { result ≡ good_state (terms_of params) (state_of self) }
     {
-        let p = self.parts;
-        p.in_range(params)
+        self.parts.in_range(params)
     }
 
     // The state of stored parts; on a refusal the empty state.
@@ -60,8 +60,7 @@ impl SettlementState {
     pub fn parts(self) -> SettlementParts
         ensures { stored_of result ≡ state_of self }
     {
-        let stored = self.parts;
-        stored
+        self.parts
     }
 
     // How many slots are filled.

@@ -2,6 +2,6 @@ use borrow.Author.Rules.{rules}
 use Rattle.rules.specs.Bytes.{zeros}
 use Rattle.sheet.proofs.main.Goals as goal
 
-pub run-requires : goal.run-requires
+pub run-requires-clause-zeroed : goal.run-requires-clause-zeroed
 unfolding zeros
-run-requires c = search rules
+run-requires-clause-zeroed c = search rules

@@ -9,7 +9,7 @@ use Rattle.rules.specs.Record.{book_size}
 use Rattle.core_prices.specs.Prints.{quote_of}
 use Rattle.book.specs.Refusals.{refusal_number}
 use Rattle.commands.specs.Entries.{command_of}
-use Rattle.record_read.specs.Records.{opening_with}
+use Rattle.record_read.specs.Records.{opening_of}
 use Rattle.commands.proofs.Applied.{asked, no_book, no_command_lem, by_command}
 use borrow.Author.Rules.{rules}
 use Rattle.commands.proofs.apply.apply.Goals as goal
@@ -26,7 +26,7 @@ pub returns-in-Ok-Open : goal.returns-in-Ok-Open
 returns-in-Ok-Open c =
     let e = c.in-Ok-Open in
     let right : length c.args.book.now ≡ book_size = omega (arith, c.if-book-ne-BOOK_SIZE.false) in
-    let x = by_command c.args.book.now c.args.entry.now right e.series (Open (opening_with e.params e.max_conf_bps e.expiry.0)) (sym (ap command_of e.field-0-is) ∙ e.ensures) in
+    let x = by_command c.args.book.now c.args.entry.now right e.series (Open (opening_of e.opening)) (sym (ap command_of e.field-0-is) ∙ e.ensures) in
     (c.«open».ensures.0 ∙ x.0, c.«open».ensures.1 ∙ x.1)
 
 pub returns-in-Ok-Offer : goal.returns-in-Ok-Offer

@@ -1,22 +1,19 @@
 use native.Mathlib.Omega.{arith}
-use mathlib.Core.Path.{◌∙◌}
-use Rattle.commands.proofs.Entries.{entry_none, entry-from}
+use mathlib.Core.Path.{◌≡◌, ap, ◌∙◌}
+use borrow.Author.Rules.{rules}
+use Rattle.rules.specs.Entries.{no_command}
+use Rattle.book.specs.Refusals.{refusal_number}
+use Rattle.commands.specs.Entries.{entry_of}
+use Rattle.commands.proofs.Entries.{entry_none, entry_of_kind, entry_unknown}
 use Rattle.commands.proofs.command.read_entry.Goals as goal
 
 pub returns-in_default : goal.returns-in_default
 returns-in_default c = entry_none c.args.bytes.now (omega arith)
 
-pub returns-in-1 : goal.returns-in-1
-returns-in-1 c = c.open_entry.ensures ∙ entry-from c.args.bytes.now (omega arith) c.in-1.is
+pub returns-in_err-try_from : goal.returns-in_err-try_from
+returns-in_err-try_from c =
+    let e : entry_of c.from_residual.result ≡ no_command (refusal_number c.in_err-try_from.field-0.0) = search rules in
+    e ∙ ap no_command c.in_err-try_from.ensures.1 ∙ entry_unknown c.args.bytes.now (omega arith) c.in_err-try_from.ensures.0
 
-pub returns-in-2 : goal.returns-in-2
-returns-in-2 c = c.offer_entry.ensures ∙ entry-from c.args.bytes.now (omega arith) c.in-2.is
-
-pub returns-in-3 : goal.returns-in-3
-returns-in-3 c = c.ask_entry.ensures ∙ entry-from c.args.bytes.now (omega arith) c.in-3.is
-
-pub returns-in-4 : goal.returns-in-4
-returns-in-4 c = c.fix_entry.ensures ∙ entry-from c.args.bytes.now (omega arith) c.in-4.is
-
-pub returns-in-6 : goal.returns-in-6
-returns-in-6 c = c.withdraw_entry.ensures ∙ entry-from c.args.bytes.now (omega arith) c.in-6.is
+pub returns : goal.returns
+returns c = c.read_command.ensures ∙ entry_of_kind c.in_ok-try_from.field-0 c.args.bytes.now (omega arith) c.in_ok-try_from.ensures

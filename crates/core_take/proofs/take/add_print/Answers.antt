@@ -21,8 +21,11 @@ returns-then-not-in_range c =
     let (t, s) = checks (terms_of c.args.params) (stored_of c.args.state) c.in_default.ensures in
     simp (t, s, failed c.in_range.ensures c.if-not-in_range.true-raw) (refl, refl)
 
+pub invariant_of-posted : goal.invariant_of-posted
+invariant_of-posted c = record { terms_in_range = (checks (terms_of c.args.params) (stored_of c.args.state) c.in_default.ensures).0 }
+
 pub add-requires : goal.add-requires
-add-requires c = checks (terms_of c.args.params) (stored_of c.args.state) c.in_default.ensures
+add-requires c = (checks (terms_of c.args.params) (stored_of c.args.state) c.in_default.ensures).1
 
 pub returns : goal.returns
 unfolding add_print_call add_print_state

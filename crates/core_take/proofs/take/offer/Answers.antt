@@ -18,8 +18,11 @@ pub returns-in-Err : goal.returns-in-Err
 unfolding offer_call offer_state
 returns-in-Err c = unchanged _ _ _ _ (sym (not_checked (terms_of c.args.params) (stored_of c.args.state) _ _ c.in-Err.ensures))
 
+pub invariant_of-posted : goal.invariant_of-posted
+invariant_of-posted c = record { terms_in_range = (checks (terms_of c.args.params) (stored_of c.args.state) c.in_default.ensures).0 }
+
 pub add-requires : goal.add-requires
-add-requires c = checks (terms_of c.args.params) (stored_of c.args.state) c.in_default.ensures
+add-requires c = (checks (terms_of c.args.params) (stored_of c.args.state) c.in_default.ensures).1
 
 pub returns : goal.returns
 unfolding offer_call offer_state quote_of terms_of

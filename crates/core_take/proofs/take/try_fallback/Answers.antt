@@ -14,8 +14,8 @@ use Rattle.core_take.proofs.take.try_fallback.Goals as goal
 pub returns : goal.returns
 unfolding fallback_use fallback_in qualifies terms_of print_of stored_of candidates_of
 returns c =
-    let f-expiry = c.ranges.expiry in
+    let f-expiry = let x : SFits w64 c.args.x.expiry = search rules in x in
     let f-stored = let x : SFits w64 c.args.s.fallback_time = search rules in x in
-    let f-publish = let x : SFits w64 c.args.x.publish_time = search rules in x in
-    let f-prev = let x : SFits w64 c.args.x.prev_publish_time = search rules in x in
+    let f-publish = let x : SFits w64 c.args.x.print.publish_time = search rules in x in
+    let f-prev = let x : SFits w64 c.args.x.print.prev_publish_time = search rules in x in
     simp to_z-of_z at c.fallback_in.ensures

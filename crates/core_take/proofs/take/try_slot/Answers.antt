@@ -13,7 +13,7 @@ pub returns : goal.returns
 unfolding terms_of print_of stored_of candidates_of
 returns c =
     let a = c.args in
-    let f-expiry = c.ranges.expiry in
-    let f-publish = let x : SFits w64 c.args.x.publish_time = search rules in x in
-    let f-prev = let x : SFits w64 c.args.x.prev_publish_time = search rules in x in
-    by_division (terms_of a.p) a.expiry (candidates_of (stored_of a.s)) (print_of a.x) c.requires _ (simp to_z-of_z at c.slot_in.ensures)
+    let f-expiry = let x : SFits w64 c.args.x.expiry = search rules in x in
+    let f-publish = let x : SFits w64 c.args.x.print.publish_time = search rules in x in
+    let f-prev = let x : SFits w64 c.args.x.print.prev_publish_time = search rules in x in
+    by_division (terms_of a.x.params) a.x.expiry (candidates_of (stored_of a.s)) (print_of a.x.print) a.x.terms_in_range _ (simp to_z-of_z at c.slot_in.ensures)

@@ -1,7 +1,7 @@
 use Prim.Native.Nat.{◌/◌, ◌%◌}
 use mathlib.Core.Path.{sym, ◌∙◌}
 use native.Mathlib.Omega.{arith}
-use borrow.Author.Tests.{lt-ltb, le-ltb, le-leb, lt-leb, not-true, not-false}
+use borrow.Author.Tests.{lt-ltb, le-ltb, le-leb, lt-leb}
 use Rattle.core_uses.specs.Uses.{slot_at}
 use Rattle.core_uses.proofs.uses.slot_at.Goals as goal
 
@@ -38,11 +38,11 @@ returns-then-back-late c =
       le-ltb (a.offset % a.slot) a.back c.if-back-late.true,
     )
 
-pub returns-then-not-is_empty : goal.returns-then-not-is_empty
+pub returns-then-is_filled : goal.returns-then-is_filled
 unfolding slot_at
-returns-then-not-is_empty c =
+returns-then-is_filled c =
     let a = c.args in
-    let e = sym c.is_empty.ensures ∙ not-true c.is_empty.result c.if-not-is_empty.true-raw in
+    let e = sym c.is_filled.ensures ∙ c.if-is_filled.true in
     simp (
       lt-ltb 0 a.slot (omega (arith, c.if-slot-eq0.false)),
       lt-ltb (a.offset / a.slot) 32 c.if-index-ge32.false,
@@ -55,7 +55,7 @@ pub returns : goal.returns
 unfolding slot_at
 returns c =
     let a = c.args in
-    let e = sym c.is_empty.ensures ∙ not-false c.is_empty.result c.if-not-is_empty.false-raw in
+    let e = sym c.is_filled.ensures ∙ c.if-is_filled.false in
     simp (
       lt-ltb 0 a.slot (omega (arith, c.if-slot-eq0.false)),
       lt-ltb (a.offset / a.slot) 32 c.if-index-ge32.false,

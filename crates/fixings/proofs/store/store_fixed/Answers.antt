@@ -10,4 +10,4 @@ slice_bounds-write_fixed-end c = let a = c.args in omega (arith, allowed-book a.
 pub returns : goal.returns
 returns c =
     let a = c.args in
-    fixed_over a.book.now a.series c.requires (answer_of a.outcome) a.fixing_time c.ranges.fixing_time c.look.ensures c.read_contents-c.ensures c.write_fixed.ensures
+    fixed_over a.book.now a.series c.requires (answer_of a.outcome) a.fixing_time c.ranges.fixing_time c.look.ensures c.read_contents.ensures c.write_fixed.ensures

@@ -1,9 +1,8 @@
-use native.Mathlib.Omega.{arith}
 use Rattle.journal.proofs.Series.{line_at}
 use Rattle.journal.proofs.feed.give.Goals as goal
 
 pub returns : goal.returns
 returns c =
     let a = c.args in
-    let l = line_at a.out.now a.at a.book.now a.entry.now (omega arith) c.read-series.ensures c.apply-answer.ensures.0 (c.write_line.ensures.value, c.write_line.ensures.upper_bound) c.unwrap.ensures in
-    (l.0, c.apply-answer.ensures.1, l.1, l.2)
+    let (n, line, short) = line_at a.out.now a.book.now a.entry.now c.requires c.read-series.ensures c.apply-answer.ensures.0 (c.write_line.ensures.value, c.write_line.ensures.upper_bound) c.unwrap.ensures in
+    (n, c.apply-answer.ensures.1, line, short)

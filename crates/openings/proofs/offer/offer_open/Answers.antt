@@ -29,13 +29,13 @@ unfolding quote_of
 returns-in-Ok c =
     let a = c.args in
     let book = a.book.now in
-    let c0 = c.read_contents-c.result in
-    let o = opening_of c0 in
+    let c0 = c.read_contents.result in
+    let o = opening_of c0.opening in
     let q = quote_of a.quote in
     let prices = prices_in (record_at a.series book) in
     let f = c.ranges.now in
     let u = c.in-Ok.u in
-    let e = held_found book a.series c.requires c.look.ensures c.read_contents-c.ensures in
+    let e = held_found book a.series c.requires c.look.ensures c.read_contents.ensures in
     let x = offer_used book a.series o (stored_of c0.state) prices q a.now u.slot u.next_print u.fallback
     (sym c.offer-added.ensures.0 ∙ ap used_of c.in-Ok.is) in (
       x.0 ∙ ap (λ (y : Result Series). stored_answer y (Offer q a.now)) e,
@@ -49,10 +49,10 @@ pub returns-in-Err : goal.returns-in-Err
 returns-in-Err c =
     let a = c.args in
     let book = a.book.now in
-    let c0 = c.read_contents-c.result in
+    let c0 = c.read_contents.result in
     let q = quote_of a.quote in
-    let e = held_found book a.series c.requires c.look.ensures c.read_contents-c.ensures in
-    let x = offer_refused book a.series (opening_of c0) (stored_of c0.state) (prices_in (record_at a.series book)) q a.now (number_of c.in-Err.e) (sym c.offer-added.ensures.0 ∙ ap used_of c.in-Err.is) in (
+    let e = held_found book a.series c.requires c.look.ensures c.read_contents.ensures in
+    let x = offer_refused book a.series (opening_of c0.opening) (stored_of c0.state) (prices_in (record_at a.series book)) q a.now (number_of c.in-Err.e) (sym c.offer-added.ensures.0 ∙ ap used_of c.in-Err.is) in (
       ap Refused c.from.ensures ∙ x.0 ∙ ap (λ (y : Result Series). stored_answer y (Offer q a.now)) e,
       x.1 ∙ ap (λ (y : Result Series). written a.series book y (Offer q a.now)) e,
     )

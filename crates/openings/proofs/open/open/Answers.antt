@@ -7,7 +7,7 @@ use Rattle.rules.specs.Series.{Open, no_candidates, step}
 use Rattle.rules.specs.Record.{prices_in, open_record}
 use Rattle.rules.specs.Book.{record_at, replaced}
 use Rattle.core_parts.proofs.Places.{passed, failed}
-use Rattle.record_read.specs.Records.{opening_with}
+use Rattle.record_read.specs.Records.{opening_of}
 use Rattle.answers.proofs.Commands.{answered, left, allowed}
 use Rattle.openings.proofs.Opens.{none_priced, open_refused, open_done}
 use Rattle.openings.proofs.open.open.Goals as goal
@@ -16,7 +16,7 @@ pub returns-then-not-in_range : goal.returns-then-not-in_range
 returns-then-not-in_range c =
     let a = c.args in
     let book = a.book.now in
-    let o = opening_with a.params a.max_conf_bps a.expiry.0 in
+    let o = opening_of a.opening in
     let h = c.in-Ok-Empty.ensures in
     let e = ap ok c.in-Ok-Empty.field-0-is in
     let x = open_refused book a.series o (failed c.in_range.ensures c.if-not-in_range.true-raw) in
@@ -29,7 +29,7 @@ pub returns-else-not-in_range : goal.returns-else-not-in_range
 returns-else-not-in_range c =
     let a = c.args in
     let book = a.book.now in
-    let o = opening_with a.params a.max_conf_bps a.expiry.0 in
+    let o = opening_of a.opening in
     let h = c.in-Ok-Empty.ensures in
     let e = ap ok c.in-Ok-Empty.field-0-is in
     let x = open_done book a.series o (passed c.in_range.ensures c.if-not-in_range.false-raw) in (
@@ -42,7 +42,7 @@ pub returns-in-Ok-Fixed : goal.returns-in-Ok-Fixed
 unfolding step
 returns-in-Ok-Fixed c =
     let a = c.args in
-    let o = opening_with a.params a.max_conf_bps a.expiry.0 in
+    let o = opening_of a.opening in
     let h = c.in-Ok-Fixed.ensures in
     let e = ap ok c.in-Ok-Fixed.field-0-is in
     (answered a.book.now a.series h e (Open o), left a.book.now a.series h e (Open o))
@@ -51,5 +51,5 @@ pub returns-in-Err : goal.returns-in-Err
 unfolding step
 returns-in-Err c =
     let a = c.args in
-    let o = opening_with a.params a.max_conf_bps a.expiry.0 in
+    let o = opening_of a.opening in
     (answered a.book.now a.series c.in-Err.ensures refl (Open o), left a.book.now a.series c.in-Err.ensures refl (Open o))
