@@ -71,6 +71,13 @@ module _ (book : Bytes) (s : ℕ) (c : Command) (on_empty : step empty c ≡ kee
   pub not_used : (n : ℕ) → refused n ≡ use_of (status_in (look book s)) → (Refused n ≡ answer_at book s c) × (book ≡ after_at book s c)
   not_used n e = by_status (status_in (look book s)) n e (status_found book s)
 
+  pub not_open : (use_of (status_in (look book s)) ≡ ok tt → ⊥) → after_at book s c ≡ book
+  not_open h = go (use_of (status_in (look book s))) refl
+    where
+      go : (x : Result Unit) → x ≡ use_of (status_in (look book s)) → after_at book s c ≡ book
+      go (ok u) e = absurd (h (sym e))
+      go (refused n) e = sym (not_used n e).1
+
 -- ---- a record that is still to be tested, by what was read of it
 
 -- the state and the slot prices

@@ -37,12 +37,13 @@ unfolding replaced
 put_is s r book =
     ap (λ (x : Bytes). take (s * record_size) book ++ (r ++ x)) (Post-is (s * record_size) (s * record_size + record_size) book (omega arith))
 
-module _ (book : Bytes) (s : ℕ) (e : R.ok (record_at s book) ≡ look book s) where
+-- of a look that is allowed, whatever bytes it gives
+module _ (book : Bytes) (s : ℕ) {x : Bytes} (e : R.ok x ≡ look book s) where
   tests_passed : (eqb (length book) book_size ≡ true) × (ltb s series_count ≡ true)
   unfolding look
   tests_passed = go (eqb (length book) book_size) (ltb s series_count) e
     where
-      go : (b d : Bool) → R.ok (record_at s book) ≡ (if not b then refused 35 else (if not d then refused 34 else ok (record_at s book))) → (b ≡ true) × (d ≡ true)
+      go : (b d : Bool) → R.ok x ≡ (if not b then refused 35 else (if not d then refused 34 else ok (record_at s book))) → (b ≡ true) × (d ≡ true)
       go true true h = (refl, refl)
       go true false h = (refl, cc)
       go false d h = (cc, cc)

@@ -275,6 +275,7 @@ fn cascade(
 
 // The decision at the time now by an order: 12 for the terms, 11 for the state, and then the
 // cascade's. By the old order it is the Rust's.
+#[tactic(auto, unfolding(rules::specs::State::decide_call))]
 pub fn decide_by(
     state: SettlementParts,
     params: OracleParams,

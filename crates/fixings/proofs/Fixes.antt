@@ -31,8 +31,8 @@ use Rattle.record_test.specs.declared.status.Status.{Status}
 use Rattle.record_test.specs.declared.status.Status.TheVariants as S
 use Rattle.record_test.specs.Statuses.{status_in, decision_in}
 use Rattle.record_test.proofs.Statuses.{is_refused, not_refused}
-use Rattle.answers.specs.Commands.{Untested, answer_at, after_at, book_answer}
-use Rattle.answers.proofs.Commands.{answered, tested, open_found, open_kept, decided_in}
+use Rattle.answers.specs.Commands.{Untested, answer_at, after_at, use_of, book_answer}
+use Rattle.answers.proofs.Commands.{answered, not_used, not_open, tested, open_found, open_kept, decided_in}
 
 -- ---- the decision by the core's call, which tests the terms and the state
 
@@ -117,6 +117,16 @@ module _ (book : Bytes) (s : ℕ) (h : Untested book s) (now : ℤ) where
     fix_made d e t k b =
         let (x, y) = at_book (fix_done o p prices now book s d (call_is e) t (open_kept book s h)) in
         (k ∙ x, b ∙ ap (λ (t : ℤ). replaced s (fixed_record voted o p prices (D.answer_of d) t) book) (to_z-of_z f) ∙ y)
+
+-- ---- a fix of a series that is not open
+
+pub unused_told : (book : Bytes) (s : ℕ) (now : ℤ) (r : Refusal) → found_of {A = Unit} (Err r) ≡ use_of (status_in (look book s)) → Refused (refusal_number r) ≡ answer_at book s (Fix now)
+unfolding step
+unused_told book s now r h = (not_used book s (Fix now) refl (λ r o h a at. refl) (refusal_number r) h).0
+
+pub unused_left : (book : Bytes) (s : ℕ) (now : ℤ) → (use_of (status_in (look book s)) ≡ ok tt → ⊥) → after_at book s (Fix now) ≡ book
+unfolding step
+unused_left book s now h = not_open book s (Fix now) refl (λ r o h a at. refl) h
 
 -- ---- an ask of a fixed series
 

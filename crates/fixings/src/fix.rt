@@ -28,6 +28,7 @@ fn fix_open(book: &mut [u8], series: u8, now: i64) -> Answer
 }
 
 // Fixes a series, with its outcome stored: 35, 34, 11, then 37, 38, 0, 39.
+#[tactic(auto, using(crate::proofs::Fixes::unused_told, crate::proofs::Fixes::unused_left))]
 pub fn fix(book: &mut [u8], series: u8, now: i64) -> Answer
     ensures { (answer_of result ≡ answer_at book.old series (Fix now)) × (book.new ≡ after_at book.old series (Fix now)) }
 {

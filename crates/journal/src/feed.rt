@@ -9,7 +9,7 @@ ghost use Rattle.journal.specs.Feed.{book_from, lines_from, short, given, fed_by
 use crate::split::first_width;
 use commands::apply::apply;
 use endian::LittleEndian;
-use lines::line::{LINE_MAX, write_line};
+use lines::line::{LINE_MAX, Line, write_line};
 
 // How many bytes of the part were taken and how many of lines written, and whether an entry of one
 // byte was given, after which the journal has no other.
@@ -30,7 +30,7 @@ fn give(book: &mut [u8], entry: &[u8], out: &mut [u8]) -> usize
 {
     let answer = apply(book, entry);
     let series = u8::read(entry, 1);
-    write_line(out, series, answer).unwrap()
+    write_line(out, series, Line::Answer(answer)).unwrap()
 }
 
 // Gives the entries of a journal's part to the book, as far as there is room for their lines, which

@@ -5,7 +5,7 @@ ghost use Rattle.rules.specs.Answers.{Used, Wait, Settle};
 ghost use Rattle.rules.specs.Lines.{decimal, after_word, line};
 ghost use Rattle.answers.specs.Answers.{answer_of};
 ghost use Rattle.core_decide.specs.Decisions.{method_of};
-ghost use Rattle.lines.specs.Lines.{line_max};
+ghost use Rattle.lines.specs.Lines.{line_max, said_by};
 
 use crate::text::Text;
 use answers::answer::Answer;
@@ -15,6 +15,14 @@ use core_terms::units::StrikeUsd;
 
 // No line is longer.
 pub const LINE_MAX: usize = 96;
+
+// What a line says: an answer, or that a command was refused with a number, which may be any, also
+// one that no command here gives.
+#[derive(Debug, Clone, Copy, PartialEq, Eq)]
+pub enum Line {
+    Answer(Answer),
+    Refused(u8),
+}
 
 // A line of a word alone.
 fn alone(word: &[u8]) -> Text
@@ -76,7 +84,7 @@ fn settle(series: u8, method: SettleMethod, price: StrikeUsd, samples: u16) -> T
 
 // The line of an answer to a command of the series.
 #[tactic(auto, unfolding(rules::specs::Lines::line))]
-fn line_of(series: u8, answer: Answer) -> Text
+fn answered(series: u8, answer: Answer) -> Text
     ensures { result ≡ line series (answer_of answer) }
 {
     match answer {
@@ -94,17 +102,28 @@ fn line_of(series: u8, answer: Answer) -> Text
     }
 }
 
+// The text of a line.
+#[tactic(auto, unfolding(rules::specs::Lines::line))]
+fn text_of(series: u8, what: Line) -> Text
+    ensures { result ≡ line series (said_by what) }
+{
+    match what {
+        Line::Answer(answer) => answered(series, answer),
+        Line::Refused(number) => short(b"refused", number),
+    }
+}
+
 // Writes the line to the front of out and answers its length. An out of fewer than LINE_MAX bytes
 // gets no line, and stays.
 #[tactic(auto, using(crate::proofs::Lines::over_front))]
-pub fn write_line(out: &mut [u8], series: u8, answer: Answer) -> Option<usize>
-    ensures value { (result ≡ (if ltb (length out.old) line_max then None else Some (length (line series (answer_of answer))))) × (out.new ≡ (if ltb (length out.old) line_max then out.old else sets out.old 0 (line series (answer_of answer)))) }
+pub fn write_line(out: &mut [u8], series: u8, what: Line) -> Option<usize>
+    ensures value { (result ≡ (if ltb (length out.old) line_max then None else Some (length (line series (said_by what))))) × (out.new ≡ (if ltb (length out.old) line_max then out.old else sets out.old 0 (line series (said_by what)))) }
     ensures upper_bound { IfSome result (λ n. n ≤ line_max) }
 {
     if out.len() < LINE_MAX {
         return None;
     }
-    let text = line_of(series, answer);
+    let text = text_of(series, what);
     let line = text.as_slice();
     out[..line.len()].copy_from_slice(line);
     Some(line.len())

@@ -1,5 +1,5 @@
 -- What an offer answers and leaves where the core tests the terms and the state.
-use Rattle.std.specs.Prelude.{if◌then◌else◌, Option}
+use Rattle.std.specs.Prelude.{if◌then◌else◌, Option, Err}
 use Prim.Native.Nat.{ℕ, ◌*◌}
 use mathlib.Core.Path.{◌≡◌, refl, sym, ap, ◌∙◌}
 use mathlib.Core.Bool.{Bool, true, false, not, ◌&&◌}
@@ -15,10 +15,13 @@ use Rattle.rules.specs.Taking.{Candidates, slot_for, usable, times_fit, sum_fits
 use Rattle.rules.specs.State.{Parts, candidates_of, parts_of, good_state, offer_call, offer_state}
 use Rattle.rules.specs.Series.{Opening, Offer, Series, step}
 use Rattle.rules.specs.Record.{open_record, bytes_of}
-use Rattle.rules.specs.Book.{replaced, stored_answer, written}
+use Rattle.rules.specs.Book.{look, replaced, stored_answer, written}
 use Rattle.record_store.specs.Prices.{with_price}
-use Rattle.book.specs.Refusals.{in_book}
-use Rattle.answers.proofs.Commands.{tested_as, tested}
+use Rattle.book.specs.declared.refusal.Refusal.{Refusal}
+use Rattle.book.specs.Refusals.{in_book, refusal_number, found_of}
+use Rattle.record_test.specs.Statuses.{status_in}
+use Rattle.answers.specs.Commands.{answer_at, after_at, use_of}
+use Rattle.answers.proofs.Commands.{not_used, not_open, tested_as, tested}
 
 -- ---- acceptance and the core don't refuse with 12
 
@@ -134,3 +137,13 @@ module _ (book : Bytes) (s : ℕ) (o : Opening) (p : Parts) (prices : List ℕ) 
       go true true (refused m) e h = (cc, cc)
       go true true (ok x) e h =
           rw (e, h, accepted-price o.terms.exponent o.bps q x e, slot-used o c x u v f h) (refl, refl)
+
+-- ---- an offer to a series that is not open
+
+pub unused_told : (book : Bytes) (s : ℕ) (q : Quote) (now : ℤ) (r : Refusal) → found_of {A = Unit} (Err r) ≡ use_of (status_in (look book s)) → Refused (refusal_number r) ≡ answer_at book s (Offer q now)
+unfolding step
+unused_told book s q now r h = (not_used book s (Offer q now) refl (λ r o h a at. refl) (refusal_number r) h).0
+
+pub unused_left : (book : Bytes) (s : ℕ) (q : Quote) (now : ℤ) → (use_of (status_in (look book s)) ≡ ok tt → ⊥) → after_at book s (Offer q now) ≡ book
+unfolding step
+unused_left book s q now h = not_open book s (Offer q now) refl (λ r o h a at. refl) h

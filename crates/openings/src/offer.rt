@@ -37,6 +37,7 @@ fn offer_open(book: &mut [u8], series: u8, quote: Quote, now: i64) -> Answer
 }
 
 // Offers a print to a series: 35, 34, 11, then 37, 38, acceptance, 0, 14.
+#[tactic(auto, using(crate::proofs::Offers::unused_told, crate::proofs::Offers::unused_left))]
 pub fn offer(book: &mut [u8], series: u8, quote: Quote, now: i64) -> Answer
     ensures { (answer_of result ≡ answer_at book.old series (Offer (quote_of quote) now)) × (book.new ≡ after_at book.old series (Offer (quote_of quote) now)) }
 {

@@ -17,6 +17,7 @@ use record_read::contents::{Contents, Opening, read_contents};
 use record_test::status::{Status, status_at};
 
 // The refusal on an open series, whose terms and state are still to be tested: 11, then 36.
+#[tactic(auto, using(answers::proofs::Commands::may_look, crate::proofs::Opens::used_whole, crate::proofs::Opens::check_ways, crate::proofs::Opens::good_told, crate::proofs::Opens::bad_told, crate::proofs::Opens::used_left))]
 fn used(book: &[u8], series: u8) -> Refusal
     requires { Untested book.now series }
     ensures { ((o : S.Opening) → Refused (refusal_number result) ≡ answer_at book.now series (Open o)) × ((o : S.Opening) → book.now ≡ after_at book.now series (Open o)) }

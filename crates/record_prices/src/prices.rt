@@ -27,7 +27,7 @@ fn priced(bytes: &[u8]) -> usize
 // Whether each slot has a price where its bit is set and zero where it is not, the sum is their
 // total, and no price is too high for a print. Bytes of another length are no record. The bits that
 // the prices make are gathered from the last pair of slots down and compared at once.
-#[tactic(auto, using(crate::proofs::Left::left_few, crate::proofs::Left::pair_fits, crate::proofs::Left::pair_refused, crate::proofs::Left::bits_met, crate::proofs::Left::bits_missed))]
+#[tactic(auto, using(crate::proofs::Left::left_few, crate::proofs::Left::pair_refused, crate::proofs::Left::bits_met, crate::proofs::Left::bits_missed))]
 pub fn prices_stand(bytes: &[u8]) -> bool
     ensures { result ≡ eqb (length bytes.now) record_size && (good_prices (holdings_in bytes.now) && low_slots (holdings_in bytes.now)) }
 {
@@ -44,7 +44,9 @@ pub fn prices_stand(bytes: &[u8]) -> bool
             return false;
         }
         bits = 4 * bits + (2 * u64::from(0 < upper) + u64::from(0 < lower));
-        total += u128::from(upper + lower);
+        // Two prices below the limit fit into 64 bits together.
+        let both = u128::from(upper.wrapping_add(lower));
+        total += both;
     }
     bits == u64::from(u32::read(bytes, 32)) && total == u128::read(bytes, 48)
 }

@@ -43,3 +43,8 @@ module _ (last : Bool) (book part out : Bytes) (end : ℕ) (inside : end ≤ len
           → Holds (record { written = f.written; held = end - f.taken; ended = f.ended }) book₁ part₁ out₁ (reads last (on book) (take end part))
       holds {part₁} p =
           rw (fed_reads last (on book) (take end part) out refl room fed) (record { booked = refl; held = left p; lines = refl; ended = refl })
+
+      -- the same of bytes that are moved from a place which is where the commands end
+      pub holds_from : {from : ℕ} {part₁ : Bytes} → part₁ ≡ copy_within part from end 0 → from ≡ f.taken
+          → Holds (record { written = f.written; held = end - from; ended = f.ended }) book₁ part₁ out₁ (reads last (on book) (take end part))
+      holds_from p e = rw e (holds (rw e at p))

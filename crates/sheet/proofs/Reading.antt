@@ -135,7 +135,7 @@ module _ (before : Feeder) (part₁ : Bytes) (kept : take before.held part₁ �
         short = was.short;
       }
 
-  hands_still : (r : Result Bool Failure) (last : Bool) (bytes : Bytes) (after : Feeder) (to₁ to : Option Bytes)
+  pub hands_still : (r : Result Bool Failure) (last : Bool) (bytes : Bytes) (after : Feeder) (to₁ to : Option Bytes)
       → HandsOn r last bytes there after to₁ to → HandsOn r last bytes before after to₁ to
   hands_still (Ok false) last bytes after to₁ to on = λ parts was. on parts (still was)
   hands_still (Ok true) last bytes after to₁ to on = λ parts was. on parts (still was)

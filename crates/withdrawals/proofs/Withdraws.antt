@@ -1,5 +1,5 @@
 -- What a withdraw answers and leaves, by the tests that the code makes.
-use Rattle.std.specs.Prelude.{if◌then◌else◌}
+use Rattle.std.specs.Prelude.{if◌then◌else◌, Err}
 use Prim.Native.Nat.{ℕ, ◌+◌, ◌*◌, ◌-◌, ◌^◌, ◌≤◌, ◌<◌}
 use mathlib.Core.Path.{◌≡◌, refl, sym, ap, ◌∙◌}
 use mathlib.Core.Bool.{Bool, true, false, not, ◌&&◌}
@@ -13,7 +13,7 @@ use Rattle.rules.specs.Answers.{Result, ok, refused, Answer, Done, Refused}
 use Rattle.rules.specs.Terms.{slots, good_terms}
 use Rattle.rules.specs.Taking.{bit, vacate}
 use Rattle.rules.specs.State.{Parts, candidates_of, parts_of, good_state, restore}
-use Rattle.rules.specs.Series.{Opening, Command, Withdraw, slot_places, Series, withdrawn}
+use Rattle.rules.specs.Series.{Opening, Command, Withdraw, slot_places, Series, withdrawn, step}
 use Rattle.rules.specs.Record.{record_size, slot_prices_at, opening_in, parts_in, prices_in, holdings_in, open_record, bytes_of}
 use Rattle.rules.specs.Book.{record_at, look, replaced, stored_answer, written}
 use Rattle.rules.proofs.Place.{few_slots}
@@ -24,14 +24,15 @@ use Rattle.rules.proofs.Withdraw as W
 use Rattle.core_parts.specs.States.{value_or}
 use Rattle.core_parts.proofs.Checks.{checks}
 use Rattle.book.specs.Looks.{Allowed}
-use Rattle.book.specs.Refusals.{in_book}
+use Rattle.book.specs.declared.refusal.Refusal.{Refusal}
+use Rattle.book.specs.Refusals.{in_book, refusal_number, found_of}
 use Rattle.book.proofs.Looks.{part_at, part_is, put_is, allowed-part, part_looked}
 use Rattle.record_read.specs.Records.{Held, contents_from, contents_in}
 use Rattle.record_write.specs.Stores.{record_over}
 use Rattle.record_write.proofs.Stores.{over_whole}
-use Rattle.record_test.specs.Statuses.{stored_at}
-use Rattle.answers.specs.Commands.{Untested, answer_at, after_at}
-use Rattle.answers.proofs.Commands.{holding, tested_as, may_look, open_priced, open_kept, held_in, held_found}
+use Rattle.record_test.specs.Statuses.{status_in, stored_at}
+use Rattle.answers.specs.Commands.{Untested, answer_at, after_at, use_of}
+use Rattle.answers.proofs.Commands.{not_used, not_open, holding, tested_as, may_look, open_priced, open_kept, held_in, held_found}
 use Rattle.withdrawals.specs.Freed.{freed_parts, CanFree}
 
 -- ---- the state
@@ -166,3 +167,13 @@ module _ (book : Bytes) (s : ℕ) (h : Untested book s) {r : Bytes} (l : r ≡ v
         in_bits = rw held at (bit_within p.bits i b);
         in_sum = price_within (holdings_in (record_at s book)) (open_priced book s h) i one;
       }
+
+-- ---- a withdraw from a series that is not open
+
+pub unused_told : (book : Bytes) (s : ℕ) (now : ℤ) (i : ℕ) (r : Refusal) → found_of {A = Unit} (Err r) ≡ use_of (status_in (look book s)) → Refused (refusal_number r) ≡ answer_at book s (Withdraw now i)
+unfolding step
+unused_told book s now i r h = (not_used book s (Withdraw now i) refl (λ r o h a at. refl) (refusal_number r) h).0
+
+pub unused_left : (book : Bytes) (s : ℕ) (now : ℤ) (i : ℕ) → (use_of (status_in (look book s)) ≡ ok tt → ⊥) → after_at book s (Withdraw now i) ≡ book
+unfolding step
+unused_left book s now i h = not_open book s (Withdraw now i) refl (λ r o h a at. refl) h

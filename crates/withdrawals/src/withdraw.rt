@@ -31,6 +31,7 @@ fn withdraw_open(book: &mut [u8], series: u8, now: i64, slot: u8) -> Answer
 }
 
 // Frees a slot: 35, 34, 11, then 37, 38, 40, 41.
+#[tactic(auto, using(crate::proofs::Withdraws::unused_told, crate::proofs::Withdraws::unused_left))]
 pub fn withdraw(book: &mut [u8], series: u8, now: i64, slot: u8) -> Answer
     ensures { (answer_of result ≡ answer_at book.old series (Withdraw now slot)) × (book.new ≡ after_at book.old series (Withdraw now slot)) }
 {
